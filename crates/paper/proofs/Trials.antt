@@ -1,18 +1,18 @@
 -- The definitions tried on small cases that the figures of 01 leave open: the order of the checks, names, lent lists, bare values, and a nested run beside the same jobs run whole. All of it is computed.
 use mathlib.Core.Path.{_≡_, refl}
 use mathlib.Core.List.{List, [], _∷_, _++_, map}
-use Prim.Native.Nat.{ℕ, _+_}
+use Prim.Native.Nat.{ℕ}
 use Prim.Native.String.{String}
-use lib.ListN.{length, replicate, take, set}
+use lib.ListN.{replicate, set}
 use Rattle.paper.specs.Bytes.{Part, nowhere}
 use Rattle.paper.specs.Computing.{computed}
-use Rattle.paper.specs.Dispatch.{State, opening, opened, noState, sound}
+use Rattle.paper.specs.Dispatch.{opening, opened}
 use Rattle.paper.specs.Figures.{records, scale, scaleTasks, scaleMap, three}
-use Rattle.paper.specs.Maps.{Bare, Written, writeMap, readMap, writeOut}
-use Rattle.paper.specs.Places.{Lists, layoutLists, layout, Map}
+use Rattle.paper.specs.Maps.{Bare, writeMap, readMap, writeOut}
+use Rattle.paper.specs.Places.{layoutLists, Map}
 use Rattle.paper.specs.Quoted.{hex}
-use Rattle.paper.specs.Refusals.{Refusal, Answer, refused, given, plain, placed, figured, andThen}
-use Rattle.paper.specs.Runs.{Call, starts, writes, finishes, looks, Reply, started, wrote, finished, shown, denied, run}
+use Rattle.paper.specs.Refusals.{Refusal, Answer, refused, given, plain, placed, figured}
+use Rattle.paper.specs.Runs.{Call, starts, writes, finishes, looks, started, wrote, finished, shown, denied, run}
 use Rattle.paper.specs.Sheets.{Sheet, readSheet, writeSheet, nameOf}
 
 -- the refusal of an answer, where it is one

@@ -1,16 +1,16 @@
 -- "Dispatch": the state, when it is sound, opening, start, write, finish, look. Each step says its answer, and what state and area are afterwards.
-use mathlib.Core.Bool.{Bool, true, false, cond, not, _&&_, _||_}
+use mathlib.Core.Bool.{Bool, cond, not, _&&_, _||_}
 use mathlib.Core.List.{List, [], _∷_, _++_, map}
 use mathlib.Core.Option.{Option, none, some}
-use Prim.Native.Nat.{ℕ, zero, suc, _+_, _*_, _-_, _/_, _%_, _^_}
+use Prim.Native.Nat.{ℕ, zero, suc, _+_, _-_, _/_, _%_, _^_}
 use lib.Dec.{leb, ltb, eqb}
 use lib.ListN.{getD, length, set, replicate}
 use Rattle.paper.specs.Bytes.{Part, nowhere, put}
 use Rattle.paper.specs.Words.{each, least, listed, every}
 use Rattle.paper.specs.Limits.{mostTasks, mostSize, mostArea, isAlignment, isCount}
 use Rattle.paper.specs.Maps.{isMultiple}
-use Rattle.paper.specs.Places.{Nest, endBelow, totalOf, Place, Map, layoutOf}
-use Rattle.paper.specs.Preempting.{taskNo, count, may, transitive}
+use Rattle.paper.specs.Places.{Nest, endBelow, totalOf, Map, layoutOf}
+use Rattle.paper.specs.Preempting.{count, may, transitive}
 use Rattle.paper.specs.Refusals.{Refusal, Rule, _⇒_, first, Answer, refused, given, unless, andThen, plain, figured}
 use Rattle.paper.specs.Sheets.{Sheet, readSheet}
 
@@ -58,28 +58,23 @@ nestIn d = record { count = d .count; may = mayIn d; size = sizeAt d }
 unfoldable pub totalIn : State → ℕ
 totalIn d = totalOf (nestIn d) (addressAt d)
 
--- "A sound state", clause by clause. Slots past the counts aren't looked at
+-- "A sound state", clause by clause. "Slots past the counts aren't looked at"
 
--- "identities nonzero and strictly rising"
 abbrev pub nonzeroAt : State → ℕ → Bool
 nonzeroAt d i = ltb 0 (identityAt d i)
 
 abbrev pub risesAt : State → ℕ → Bool
 risesAt d i = ltb (identityAt d i) (identityAt d (i + 1))
 
--- "relation irreflexive"
 abbrev pub notOverItself : State → ℕ → Bool
 notOverItself d i = not (mayIn d i i)
 
--- "sizes that are its multiples and at most 1,048,576"
 abbrev pub sizedAt : State → ℕ → Bool
 sizedAt d i = isMultiple (d .alignment) (sizeAt d i) && leb (sizeAt d i) mostSize
 
--- "addresses by the rule above"
 abbrev pub placedByRule : State → ℕ → Bool
 placedByRule d i = eqb (addressAt d i) (endBelow (nestIn d) (addressAt d) i)
 
--- "each of a listed task and allowed over the one below it"
 abbrev pub heldIsTask : State → ℕ → Bool
 heldIsTask d k = ltb (heldAt d k .task) (d .count)
 
@@ -88,15 +83,21 @@ overBelow d k = mayIn d (heldAt d (k + 1) .task) (heldAt d k .task)
 
 abbrev pub clauses : State → List Bool
 clauses d =
+    -- "1 to 64 tasks"
     isCount (d .count)
+    -- "identities nonzero and strictly rising"
     ∷ each (d .count) (nonzeroAt d)
     ∷ each (d .count - 1) (risesAt d)
+    -- "relation irreflexive and transitive"
     ∷ each (d .count) (notOverItself d)
     ∷ transitive (d .count) (mayIn d)
+    -- "a listed alignment, sizes that are its multiples and at most 1,048,576"
     ∷ isAlignment (d .alignment)
     ∷ each (d .count) (sizedAt d)
+    -- "addresses by the rule above, total at most 16,777,216"
     ∷ each (d .count) (placedByRule d)
     ∷ leb (totalIn d) mostArea
+    -- "at most 64 held jobs, each of a listed task and allowed over the one below it"
     ∷ leb (d .depth) mostTasks
     ∷ each (d .depth) (heldIsTask d)
     ∷ each (d .depth - 1) (overBelow d)

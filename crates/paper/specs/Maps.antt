@@ -1,5 +1,5 @@
 -- "Map records": the rules, reading, writing out, the writer from bare values, and the map built from a sheet.
-use mathlib.Core.Bool.{Bool, true, false, cond, not, _&&_, _||_}
+use mathlib.Core.Bool.{Bool, true, false, cond, not, _&&_}
 use mathlib.Core.List.{List, [], _∷_, _++_, map}
 use Prim.Native.Nat.{ℕ, zero, suc, _+_, _%_, max}
 use lib.Dec.{leb, ltb, eqb}

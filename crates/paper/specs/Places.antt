@@ -1,14 +1,14 @@
 -- "Places and chain": sizes, addresses, total, chain, the layout of a sheet, and the lent lists.
 use mathlib.Core.Bool.{Bool, true, false, cond, _&&_}
 use mathlib.Core.List.{List, [], _∷_, _++_, map}
-use Prim.Native.Nat.{ℕ, zero, suc, _+_, _*_, _-_, _/_, max}
+use Prim.Native.Nat.{ℕ, zero, suc, _+_, _*_, _-_, _/_}
 use lib.Dec.{leb, eqb}
 use lib.ListN.{length}
 use Rattle.paper.specs.Bytes.{over}
 use Rattle.paper.specs.Words.{least, greatest, listed}
 use Rattle.paper.specs.Preempting.{taskNo, count, may, transitiveRule}
 use Rattle.paper.specs.Refusals.{Refusal, Rule, _⇒_, first, Answer, refused, given, unless, andThen, figured}
-use Rattle.paper.specs.Sheets.{Task, Sheet, readSheet}
+use Rattle.paper.specs.Sheets.{Sheet, readSheet}
 
 -- "Size is the need rounded up to a multiple of the alignment; 0 stays 0."
 abbrev pub roundedUp : ℕ → ℕ → ℕ

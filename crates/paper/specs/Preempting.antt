@@ -1,5 +1,5 @@
 -- "Who may preempt whom". Tasks go by their index in the sheet, which rises with the identity; the tests of the relation are stated for any relation on the numbers below n.
-use mathlib.Core.Bool.{Bool, not, _&&_, _||_, true, false}
+use mathlib.Core.Bool.{Bool, not, _&&_, _||_, false}
 use mathlib.Core.List.{List, [], _∷_}
 use Prim.Native.Nat.{ℕ}
 use lib.Dec.{eqb}

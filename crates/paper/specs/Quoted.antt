@@ -4,7 +4,7 @@ use mathlib.Core.List.{List, [] as none, _∷_ as _then_}
 use Prim.Native.Char.{Char, code}
 use Prim.Native.Nat.{ℕ, _+_, _*_, _-_}
 use Prim.Native.String.{String, [], _∷_}
-use lib.Dec.{ltb, eqb}
+use lib.Dec.{ltb}
 
 -- the bytes of a text of ASCII characters
 unfoldable pub text : String → List ℕ

@@ -1,5 +1,5 @@
 -- "A record is a two-byte length of the whole record, a two-byte kind, then fields." The kinds, with the lengths that suit them, and the checks on each record of a sheet or a map, one definition for both.
-use mathlib.Core.Bool.{Bool, true, false, _&&_, _||_}
+use mathlib.Core.Bool.{Bool, false, _&&_, _||_}
 use mathlib.Core.List.{List, [], _∷_, _++_}
 use Prim.Native.Nat.{ℕ, _+_}
 use lib.Dec.{leb, eqb}

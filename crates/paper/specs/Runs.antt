@@ -2,7 +2,7 @@
 use mathlib.Core.List.{List, [], _∷_}
 use Prim.Native.Nat.{ℕ}
 use Rattle.paper.specs.Bytes.{Part}
-use Rattle.paper.specs.Dispatch.{State, Started, Finished, Step, start, write, finish, look}
+use Rattle.paper.specs.Dispatch.{State, Step, start, write, finish, look}
 use Rattle.paper.specs.Refusals.{Refusal, Answer, refused, given}
 
 -- start a task; write a byte at an offset for a job; finish a job; look at a job's place
