@@ -10,7 +10,8 @@ use Rattle.paper.specs.Dispatch.{opening, opened}
 use Rattle.paper.specs.Figures.{records, scale, scaleTasks, scaleMap, three}
 use Rattle.paper.specs.Maps.{Bare, writeMap, readMap, writeOut}
 use Rattle.paper.specs.Places.{layoutLists, Map}
-use Rattle.paper.specs.Quoted.{hex}
+use Rattle.paper.specs.Printed.{printed}
+use Rattle.paper.specs.Quoted.{text, hex}
 use Rattle.paper.specs.Refusals.{Refusal, Answer, refused, given, plain, placed, figured}
 use Rattle.paper.specs.Runs.{Call, starts, writes, finishes, looks, started, wrote, finished, shown, denied, run}
 use Rattle.paper.specs.Sheets.{Sheet, readSheet, writeSheet, nameOf}
@@ -151,6 +152,39 @@ written : writeMap (bare four their-sizes (1 ∷ 3 ∷ [])) (replicate 85 7)
     ∷ []
 unfolding computed bare four their-sizes
 written = refl
+
+-- Both sets of Table II of source document 000. In the second, the chain goes through T8, which has no bytes, since 8 is the smallest identity with its end.
+flyByWire : List String
+flyByWire =
+    "0C 00 01 00 04 00 00 02 00 00 05 00"
+    ∷ "10 00 02 00 01 00 05 00 05 00 30 00 00 00 54 31"
+    ∷ "10 00 02 00 02 00 04 00 05 00 18 00 00 00 54 32"
+    ∷ "10 00 02 00 03 00 03 00 03 00 30 00 00 00 54 33"
+    ∷ "10 00 02 00 04 00 02 00 02 00 10 00 00 00 54 34"
+    ∷ "10 00 02 00 05 00 01 00 02 00 30 00 00 00 54 35"
+    ∷ "04 00 09 00"
+    ∷ []
+
+autopilot : List String
+autopilot =
+    "0C 00 01 00 04 00 00 02 00 00 08 00"
+    ∷ "10 00 02 00 06 00 08 00 08 00 78 00 00 00 54 36"
+    ∷ "10 00 02 00 07 00 07 00 07 00 48 00 00 00 54 37"
+    ∷ "10 00 02 00 08 00 06 00 06 00 00 00 00 00 54 38"
+    ∷ "10 00 02 00 09 00 04 00 04 00 80 00 00 00 54 39"
+    ∷ "11 00 02 00 0A 00 03 00 04 00 BC 00 00 00 54 31 30"
+    ∷ "11 00 02 00 0B 00 02 00 04 00 38 00 00 00 54 31 31"
+    ∷ "11 00 02 00 0C 00 01 00 04 00 48 00 00 00 54 31 32"
+    ∷ "11 00 02 00 0D 00 05 00 05 00 2C 00 00 00 54 31 33"
+    ∷ "04 00 09 00"
+    ∷ []
+
+table-two : printed (records flyByWire) ∷ printed (records autopilot) ∷ []
+    ≡ text "total 144 of 512 align 4\n1 T1 96 48\n2 T2 96 24\n3 T3 48 48\n4 T4 0 16\n5 T5 0 48\nchain 5 3 1\n"
+    ∷ text "total 424 of 512 align 4\n6 T6 304 120\n7 T7 232 72\n8 T8 232 0\n9 T9 0 128\n10 T10 0 188\n11 T11 0 56\n12 T12 0 72\n13 T13 188 44\nchain 10 13 8 7 6\n"
+    ∷ []
+unfolding computed flyByWire autopilot
+table-two = refl
 
 -- A nested run and the same jobs run whole: same addresses, numbers and finish contents, same area. WEIGH writes into its place while LABEL sleeps, and LABEL goes on afterwards.
 area : List ℕ
