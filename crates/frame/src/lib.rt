@@ -1,7 +1,8 @@
 // What sheets and maps share: refusals and answers by value.
+#![tactic(auto)]
 
 // A refusal as 01 lists it; what its table doesn't mention is 0. Places and figures are wide enough for any slice.
-#[derive(Drop)]
+#[derive(Clone, Copy)]
 pub struct Refusal {
     pub number: u16,
     pub place: usize,
@@ -12,14 +13,14 @@ pub struct Refusal {
 }
 
 // An answer whose value stands beside it, since it holds arrays: the value is all zeros where refused.
-#[derive(Drop)]
+#[derive(Clone, Copy)]
 pub enum Verdict {
     Given,
     Refused(Refusal),
 }
 
 // An answer that is a number: how many entries or bytes a lent list now holds.
-#[derive(Drop)]
+#[derive(Clone, Copy)]
 pub enum Filled {
     Upto(usize),
     Refused(Refusal),

@@ -1,9 +1,11 @@
 // The layout of a sheet by value.
+#![tactic(auto)]
+
 use frame::Verdict;
 use sheet::Sheet;
 
 // A layout: `count` places in task order, and the chain, bottom first, as `links` identities. Slots past these counts are 0.
-#[derive(Drop)]
+#[derive(Clone, Copy)]
 pub struct Layout {
     pub alignment: u16,
     pub total: u32,
@@ -16,7 +18,7 @@ pub struct Layout {
 }
 
 // What laying a sheet out gives: the sheet as read and its layout, both all zeros where it is refused.
-#[derive(Drop)]
+#[derive(Clone, Copy)]
 pub struct LaidOut {
     pub verdict: Verdict,
     pub sheet: Sheet,
