@@ -1,6 +1,6 @@
 -- The paper's refusals and answers, as the values that the code hands back.
-use Rattle.std.specs.Prelude.{ℕ}
-use Rattle.paper.specs.Refusals.{Answer, refused, given}
+use Rattle.std.specs.Prelude.{ℕ, Ok, Err}
+use Rattle.paper.specs.Refusals.{Answer}
 use Rattle.frame.specs.declared.Refusal.{Refusal}
 use Rattle.frame.specs.declared.Verdict.{Verdict}
 use Rattle.frame.specs.declared.Filled.{Filled}
@@ -12,9 +12,9 @@ abbrev pub refusal_value : Refusals.Refusal → Refusal
 refusal_value r = record { number = r.number; place = r.place; id1 = r.id1; id2 = r.id2; id3 = r.id3; figure = r.figure }
 
 abbrev pub verdict_value : {A : Type 0} → Answer A → Verdict
-verdict_value (refused r) = verdict.Refused (refusal_value r)
-verdict_value (given a) = verdict.Given
+verdict_value (Err r) = verdict.Refused (refusal_value r)
+verdict_value (Ok a) = verdict.Given
 
 abbrev pub filled_value : Answer ℕ → Filled
-filled_value (refused r) = filled.Refused (refusal_value r)
-filled_value (given n) = filled.Upto n
+filled_value (Err r) = filled.Refused (refusal_value r)
+filled_value (Ok n) = filled.Upto n

@@ -4,7 +4,7 @@ use Rattle.std.proofs.Common.{ap, sym, ◌∙◌, arith, eqb-true, eq-eqb}
 use borrow.Author.Tests.{eqb-false}
 use Rattle.laws.specs.Tests.{and_left, and_right}
 use Rattle.laws.specs.Least.{least_hit, least_first, least_of_hit, least_below}
-use Rattle.laws.specs.Nests.{Meets, Falling, stands_on, total_attained, end_below_none}
+use Rattle.laws.specs.Nests.{Meets, IsFalling, stands_on, total_attained, end_below_none}
 use Rattle.paper.specs.Places.{Nest, total_of, top_of, below_of, chain_to}
 use Rattle.paper.specs.Words.{least}
 
@@ -86,7 +86,7 @@ module _ (nest : Nest) (a : ℕ → ℕ) where
           touches = eqb-true (a j + nest.size j) (a i) (and_right (nest.may i j) (nat_eq (a j + nest.size j) (a i)) e);
         }
 
-    module _ (level : ℕ → ℕ) (falls : Falling nest level) where
+    module _ (level : ℕ → ℕ) (falls : IsFalling nest level) where
       -- a task of level 0 has address 0
       pub low_zero : (i : ℕ) → i < nest.count → level i ≤ 0 → a i ≡ 0
       low_zero i l h = rule i l ∙ end_below_none nest a i (λ j m. go j m (nest.may i j) refl)

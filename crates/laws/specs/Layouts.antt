@@ -2,10 +2,10 @@
 use Rattle.std.specs.Prelude.{◌≡◌, refl, true, List, map, ℕ, ◌+◌, ◌≤◌, ◌<◌, get_or, length}
 use Rattle.std.proofs.Common.{◌∙◌, le_refl}
 use Rattle.laws.specs.Chains.{Follow, Climb, sizes, top_below, top_end, chain_follows, chain_climbs, chain_sizes}
-use Rattle.laws.specs.Levels.{Levels, may_falls}
+use Rattle.laws.specs.Levels.{ThresholdsCover, may_falls}
 use Rattle.laws.specs.Lists.{length_listed, get_or_listed}
-use Rattle.laws.specs.Nests.{Meets, Falling, within_meets, within_enough, one_solution, lies_above, address_multiple}
-use Rattle.laws.specs.Rounding.{Multiple, alignment_cases, rounded_multiple, rounded_most}
+use Rattle.laws.specs.Nests.{Meets, IsFalling, within_meets, within_enough, one_solution, lies_above, address_multiple}
+use Rattle.laws.specs.Rounding.{IsMultiple, alignment_cases, rounded_multiple, rounded_most}
 use Rattle.paper.specs.Limits.{most_need, most_size, is_alignment}
 use Rattle.paper.specs.Maps.{no_place}
 use Rattle.paper.specs.Places.{nest_of, size_of, total_of, address_within, address_of, top_of, chain_to, map_of}
@@ -19,7 +19,7 @@ priority_of sheet i = (task_no sheet i).priority
 abbrev pub chain_of : Sheet → List ℕ
 chain_of sheet = let top = top_of (nest_of sheet) (address_of sheet) in chain_to (priority_of sheet top) (nest_of sheet) (address_of sheet) top
 
-pub size_of_multiple : (sheet : Sheet) (i : ℕ) → Multiple sheet.alignment (size_of sheet i)
+pub size_of_multiple : (sheet : Sheet) (i : ℕ) → IsMultiple sheet.alignment (size_of sheet i)
 unfolding size_of
 size_of_multiple sheet i = rounded_multiple sheet.alignment (task_no sheet i).need
 
@@ -27,11 +27,11 @@ pub size_of_most : (sheet : Sheet) (i : ℕ) → is_alignment sheet.alignment �
 unfolding size_of
 size_of_most sheet i e h = rounded_most sheet.alignment (task_no sheet i).need e h
 
-zero_multiple : (a : ℕ) → is_alignment a ≡ true → Multiple a 0
-zero_multiple = alignment_cases (λ a. Multiple a 0) refl refl refl refl refl refl refl
+zero_multiple : (a : ℕ) → is_alignment a ≡ true → IsMultiple a 0
+zero_multiple = alignment_cases (λ a. IsMultiple a 0) refl refl refl refl refl refl refl
 
-module _ (sheet : Sheet) (levels : Levels sheet) where
-  pub sheet_falls : Falling (nest_of sheet) (priority_of sheet)
+module _ (sheet : Sheet) (levels : ThresholdsCover sheet) where
+  pub sheet_falls : IsFalling (nest_of sheet) (priority_of sheet)
   sheet_falls i j hi hj e = may_falls sheet levels i j e
 
   -- the addresses meet the rule, and they are its only solution
@@ -47,7 +47,7 @@ module _ (sheet : Sheet) (levels : Levels sheet) where
   unfolding address_of
   address_of_enough f i l h = within_enough (nest_of sheet) (priority_of sheet) sheet_falls f (priority_of sheet i) i l h (le_refl (priority_of sheet i))
 
-  pub address_of_multiple : is_alignment sheet.alignment ≡ true → (i : ℕ) → i < count sheet → Multiple sheet.alignment (address_of sheet i)
+  pub address_of_multiple : is_alignment sheet.alignment ≡ true → (i : ℕ) → i < count sheet → IsMultiple sheet.alignment (address_of sheet i)
   address_of_multiple e i l =
       address_multiple (nest_of sheet) (priority_of sheet) sheet_falls sheet.alignment (zero_multiple sheet.alignment e)
       (λ j m. size_of_multiple sheet j) (address_of sheet) address_of_meets i l

@@ -4,19 +4,19 @@ use Rattle.std.proofs.Common.{sym, ◌∙◌, le_refl, arith, ltb-true, ltb-fals
 use Rattle.std.proofs.Math.Bool.{and-true}
 use Rattle.std.proofs.Math.ListN.{get_or-eq_default}
 use Rattle.laws.specs.Tests.{and_left, not_passed}
-use Rattle.laws.specs.Relations.{Irreflexive, at_transitive}
+use Rattle.laws.specs.Relations.{IsIrreflexive, at_transitive}
 use Rattle.paper.specs.Preempting.{barred, task_no, count, may_over, may, transitive}
 use Rattle.paper.specs.Sheets.{Task, Bar, Sheet, no_task, exceeds}
 
 -- "threshold at least the priority"
-abbrev pub Levels : Sheet → Type 0
-Levels sheet = (i : ℕ) → i < count sheet → (task_no sheet i).priority ≤ (task_no sheet i).threshold
+abbrev pub ThresholdsCover : Sheet → Type 0
+ThresholdsCover sheet = (i : ℕ) → i < count sheet → (task_no sheet i).priority ≤ (task_no sheet i).threshold
 
 -- past the tasks there is no task, and it has no priority
 pub past_tasks : (sheet : Sheet) (i : ℕ) → count sheet ≤ i → task_no sheet i ≡ no_task
 past_tasks sheet i h = get_or-eq_default sheet.tasks no_task h
 
-pub levels : (sheet : Sheet) → Levels sheet → (i : ℕ) → (task_no sheet i).priority ≤ (task_no sheet i).threshold
+pub levels : (sheet : Sheet) → ThresholdsCover sheet → (i : ℕ) → (task_no sheet i).priority ≤ (task_no sheet i).threshold
 levels sheet h i = go (nat_lt i (count sheet)) refl
   where
     go : (b : Bool) → nat_lt i (count sheet) ≡ b → (task_no sheet i).priority ≤ (task_no sheet i).threshold
@@ -31,12 +31,12 @@ may_exceeds bars i j e = ltb-true j.threshold i.priority (and_left (exceeds i j)
 pub priority_falls : (bars : List Bar) (i j : Task) → j.priority ≤ j.threshold → may_over bars i j ≡ true → j.priority < i.priority
 priority_falls bars i j h e = let l = may_exceeds bars i j e in omega arith
 
-pub may_falls : (sheet : Sheet) → Levels sheet → (i j : ℕ) → may sheet i j ≡ true → (task_no sheet j).priority < (task_no sheet i).priority
+pub may_falls : (sheet : Sheet) → ThresholdsCover sheet → (i j : ℕ) → may sheet i j ≡ true → (task_no sheet j).priority < (task_no sheet i).priority
 unfolding may
 may_falls sheet h i j e = priority_falls sheet.bars (task_no sheet i) (task_no sheet j) (levels sheet h j) e
 
 -- so no task may preempt itself
-pub may_irreflexive : (sheet : Sheet) → Levels sheet → Irreflexive (count sheet) (may sheet)
+pub may_irreflexive : (sheet : Sheet) → ThresholdsCover sheet → IsIrreflexive (count sheet) (may sheet)
 may_irreflexive sheet h i l = not_passed (may sheet i i) (λ e. let f = may_falls sheet h i i e in omega arith)
 
 -- without bars it is the levels alone that count
@@ -45,7 +45,7 @@ unfolding may may_over barred
 may_without_bars sheet h i j = rw (h, barred) (and-true (nat_lt (task_no sheet j).threshold (task_no sheet i).priority))
 
 -- "Thresholds without bars are always transitive."
-pub without_bars : (sheet : Sheet) → Levels sheet → sheet.bars ≡ [] → transitive (count sheet) (may sheet) ≡ true
+pub without_bars : (sheet : Sheet) → ThresholdsCover sheet → sheet.bars ≡ [] → transitive (count sheet) (may sheet) ≡ true
 without_bars sheet h e = at_transitive (count sheet) (may sheet) (λ i j k hi hj hk p q.
     let a = ltb-true (task_no sheet j).threshold (task_no sheet i).priority (sym (may_without_bars sheet e i j) ∙ p) in
     let b = ltb-true (task_no sheet k).threshold (task_no sheet j).priority (sym (may_without_bars sheet e j k) ∙ q) in

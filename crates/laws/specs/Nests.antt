@@ -4,7 +4,7 @@ use Rattle.std.proofs.Common.{ap, sym, ◌∙◌, le_refl, arith, leb-true, leb-
 use Rattle.laws.specs.Tests.{and_both}
 use Rattle.laws.specs.Each.{Hit}
 use Rattle.laws.specs.Greatest.{Attained, greatest_ge, greatest_le, greatest_attained, greatest_ext, greatest_none, greatest_has}
-use Rattle.laws.specs.Rounding.{Multiple, multiple_sum}
+use Rattle.laws.specs.Rounding.{IsMultiple, multiple_sum}
 use Rattle.paper.specs.Places.{Nest, end_if, end_below, total_of, address_within}
 use Rattle.paper.specs.Words.{greatest}
 
@@ -13,8 +13,8 @@ abbrev pub Meets : Nest → (ℕ → ℕ) → Type 0
 Meets nest a = (i : ℕ) → i < nest.count → a i ≡ end_below nest a i
 
 -- a number that falls from a task to each that it may preempt, such as its priority
-abbrev pub Falling : Nest → (ℕ → ℕ) → Type 0
-Falling nest level = (i j : ℕ) → i < nest.count → j < nest.count → nest.may i j ≡ true → level j < level i
+abbrev pub IsFalling : Nest → (ℕ → ℕ) → Type 0
+IsFalling nest level = (i j : ℕ) → i < nest.count → j < nest.count → nest.may i j ≡ true → level j < level i
 
 module _ (nest : Nest) where
   -- the end below i turns only on the addresses of the tasks that i may preempt
@@ -82,7 +82,7 @@ module _ (nest : Nest) where
     pub stands_on : (i : ℕ) → i < nest.count → (a i ≡ 0 → ⊥) → Hit nest.count (λ j. nest.may i j && nat_eq (a j + nest.size j) (a i))
     stands_on i l h = rw (rule i l) (end_below_hit a i (λ z. h (rule i l ∙ z)))
 
-module _ (nest : Nest) (level : ℕ → ℕ) (falls : Falling nest level) where
+module _ (nest : Nest) (level : ℕ → ℕ) (falls : IsFalling nest level) where
   end_below_low : (a : ℕ → ℕ) (i : ℕ) → i < nest.count → level i ≤ 0 → end_below nest a i ≡ 0
   end_below_low a i l h = end_below_none nest a i (λ j m. go j m (nest.may i j) refl)
     where
@@ -135,5 +135,5 @@ module _ (nest : Nest) (level : ℕ → ℕ) (falls : Falling nest level) where
     address_has i l = has_within (level i) i l (le_refl (level i))
 
   -- so addresses are multiples of what every size is a multiple of
-  pub address_multiple : (g : ℕ) → Multiple g 0 → ((j : ℕ) → j < nest.count → Multiple g (nest.size j)) → (a : ℕ → ℕ) → Meets nest a → (i : ℕ) → i < nest.count → Multiple g (a i)
-  address_multiple g z h a r i l = address_has (Multiple g) z (λ j x m p. multiple_sum g x (nest.size j) p (h j m)) a r i l
+  pub address_multiple : (g : ℕ) → IsMultiple g 0 → ((j : ℕ) → j < nest.count → IsMultiple g (nest.size j)) → (a : ℕ → ℕ) → Meets nest a → (i : ℕ) → i < nest.count → IsMultiple g (a i)
+  address_multiple g z h a r i l = address_has (IsMultiple g) z (λ j x m p. multiple_sum g x (nest.size j) p (h j m)) a r i l

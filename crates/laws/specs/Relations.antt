@@ -10,11 +10,11 @@ use Rattle.paper.specs.Preempting.{breaks, breaks_over, breaks_above, transitive
 
 module _ (n : ℕ) (rel : ℕ → ℕ → Bool) where
   -- "whenever j may preempt k and i may preempt j, i may preempt k"
-  abbrev pub Transitive : Type 0
-  Transitive = (i j k : ℕ) → i < n → j < n → k < n → rel i j ≡ true → rel j k ≡ true → rel i k ≡ true
+  abbrev pub IsTransitive : Type 0
+  IsTransitive = (i j k : ℕ) → i < n → j < n → k < n → rel i j ≡ true → rel j k ≡ true → rel i k ≡ true
 
-  abbrev pub Irreflexive : Type 0
-  Irreflexive = (i : ℕ) → i < n → rel i i ≡ false
+  abbrev pub IsIrreflexive : Type 0
+  IsIrreflexive = (i : ℕ) → i < n → rel i i ≡ false
 
   -- a triple below n that breaks it
   pub record Breaks (k j i : ℕ) : Type 0 where
@@ -50,7 +50,7 @@ module _ (n : ℕ) (rel : ℕ → ℕ → Bool) where
   unfolding breaks_above
   above k j i b = any_at (λ x. breaks_over n rel k x) n j b.j_below (over k j i b)
 
-  pub transitive_at : transitive n rel ≡ true → Transitive n rel
+  pub transitive_at : transitive n rel ≡ true → IsTransitive n rel
   unfolding transitive
   transitive_at e i j k hi hj hk p q =
       not_failed (rel i k) (λ z. not_both (any n (λ x. breaks_above n rel x))
@@ -98,7 +98,7 @@ module _ (n : ℕ) (rel : ℕ → ℕ → Bool) where
   smallest_i i b =
       least_at (λ x. breaks rel (smallest n rel).k (smallest n rel).j x) n i b.i_below (breaks_all (smallest n rel).k (smallest n rel).j i b)
 
-  pub at_transitive : Transitive n rel → transitive n rel ≡ true
+  pub at_transitive : IsTransitive n rel → transitive n rel ≡ true
   at_transitive h =
       not_failed (transitive n rel) (λ e.
       let b = (found e).broken in
@@ -145,14 +145,14 @@ tally_all (suc n) = let r = tally_all n in omega arith
 abbrev pub rank : ℕ → (ℕ → ℕ → Bool) → ℕ → ℕ
 rank n rel i = tally n (λ j. rel i j)
 
-module _ (n : ℕ) (rel : ℕ → ℕ → Bool) (irr : Irreflexive n rel) where
+module _ (n : ℕ) (rel : ℕ → ℕ → Bool) (irr : IsIrreflexive n rel) where
   pub rank_below : (i : ℕ) → i < n → rank n rel i < n
   rank_below i h =
       let l = tally_less n (λ j. rel i j) (λ j. true) (λ j m e. refl) i h refl (irr i h) in
       let a = tally_all n in
       omega arith
 
-  module _ (trans : Transitive n rel) where
+  module _ (trans : IsTransitive n rel) where
     pub rank_falls : (i j : ℕ) → i < n → j < n → rel i j ≡ true → rank n rel j < rank n rel i
     rank_falls i j hi hj e = tally_less n (λ k. rel j k) (λ k. rel i k) (λ k l f. trans i j k hi hj l e f) j hj e (irr j hj)
 

@@ -9,16 +9,16 @@ use Rattle.paper.specs.Places.{rounded_up}
 use Rattle.paper.specs.Words.{among}
 
 -- x is a multiple of g
-abbrev pub Multiple : ℕ → ℕ → Type 0
-Multiple g x = x % g ≡ 0
+abbrev pub IsMultiple : ℕ → ℕ → Type 0
+IsMultiple g x = x % g ≡ 0
 
-pub multiple_test : (g x : ℕ) → Multiple g x → is_multiple g x ≡ true
+pub multiple_test : (g x : ℕ) → IsMultiple g x → is_multiple g x ≡ true
 multiple_test g x h = eq-eqb (x % g) 0 h
 
-pub test_multiple : (g x : ℕ) → is_multiple g x ≡ true → Multiple g x
+pub test_multiple : (g x : ℕ) → is_multiple g x ≡ true → IsMultiple g x
 test_multiple g x e = eqb-true (x % g) 0 e
 
-pub multiple_sum : (g x y : ℕ) → Multiple g x → Multiple g y → Multiple g (x + y)
+pub multiple_sum : (g x y : ℕ) → IsMultiple g x → IsMultiple g y → IsMultiple g (x + y)
 multiple_sum g x y p q = sym (mod-add-mod x g y) ∙ ap (λ (n : ℕ). (n + y) % g) p ∙ ap (λ (n : ℕ). n % g) (zero-add y) ∙ q
 
 -- a listed alignment is one of seven numbers
@@ -46,7 +46,7 @@ alignment_most =
     alignment_cases (λ a. a ≤ 64) (omega arith) (omega arith) (omega arith) (omega arith) (omega arith) (omega arith) (omega arith)
 
 -- "Size is the need rounded up to a multiple of the alignment"
-pub rounded_multiple : (a need : ℕ) → Multiple a (rounded_up a need)
+pub rounded_multiple : (a need : ℕ) → IsMultiple a (rounded_up a need)
 rounded_multiple a need = mul-mod_left ((need + (a - 1)) / a) a
 
 pub rounded_ge : (a need : ℕ) → 0 < a → need ≤ rounded_up a need
@@ -68,7 +68,7 @@ rounded_zero a h =
     rw d (omega arith)
 
 -- the least such multiple: none between the need and it
-pub rounded_least : (a need x : ℕ) → 0 < a → Multiple a x → need ≤ x → rounded_up a need ≤ x
+pub rounded_least : (a need x : ℕ) → 0 < a → IsMultiple a x → need ≤ x → rounded_up a need ≤ x
 rounded_least a need x h m l =
     let d = div-add-mod' x a in
     let k : need + (a - 1) < suc (x / a) * a = omega arith in

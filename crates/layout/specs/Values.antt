@@ -1,11 +1,11 @@
 -- The paper's maps, as the layout that the code hands back, to the last slot.
-use Rattle.std.specs.Prelude.{List, [], map, ℕ, length}
+use Rattle.std.specs.Prelude.{List, [], map, ℕ, length, Ok, Err}
 use Rattle.frame.specs.Values.{refusal_value}
 use Rattle.layout.specs.declared.LaidOut.{LaidOut}
 use Rattle.layout.specs.declared.Layout.{Layout}
 use Rattle.paper.specs.Dispatch.{slots}
 use Rattle.paper.specs.Places.{Map, layout_of}
-use Rattle.paper.specs.Refusals.{Refusal, Answer, refused, given}
+use Rattle.paper.specs.Refusals.{Refusal, Answer}
 use Rattle.paper.specs.Sheets.{Sheet, read_sheet}
 use Rattle.sheet.specs.Values.{sheet_value, no_sheet}
 use Rattle.frame.specs.declared.Verdict.TheVariants as verdict
@@ -44,12 +44,12 @@ unfoldable pub given_layout : Sheet → Map → LaidOut
 given_layout sheet m = record { verdict = verdict.Given; sheet = sheet_value sheet; layout = layout_value m }
 
 abbrev pub of_layout : Sheet → Answer Map → LaidOut
-of_layout sheet (refused r) = refused_layout r
-of_layout sheet (given m) = given_layout sheet m
+of_layout sheet (Err r) = refused_layout r
+of_layout sheet (Ok m) = given_layout sheet m
 
 abbrev pub of_sheet : Answer Sheet → LaidOut
-of_sheet (refused r) = refused_layout r
-of_sheet (given sheet) = of_layout sheet (layout_of sheet)
+of_sheet (Err r) = refused_layout r
+of_sheet (Ok sheet) = of_layout sheet (layout_of sheet)
 
 -- a sheet's bytes, read and laid out
 unfoldable pub laid_out : List ℕ → LaidOut

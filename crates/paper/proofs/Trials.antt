@@ -1,5 +1,5 @@
 -- The definitions tried on small cases that the figures of 01 leave open: the order of the checks, names, lent lists, bare values, and a nested run beside the same jobs run whole. All of it is computed.
-use Rattle.std.proofs.Common.{◌≡◌, refl, List, [], ◌∷◌, ◌++◌, map, ℕ, replicate, set}
+use Rattle.std.proofs.Common.{◌≡◌, refl, List, [], ◌∷◌, ◌++◌, map, ℕ, replicate, set, Ok, Err}
 use Prim.Native.String.{String}
 use Rattle.paper.specs.Bytes.{Part, nowhere}
 use Rattle.paper.specs.Computing.{computed}
@@ -9,14 +9,14 @@ use Rattle.paper.specs.Maps.{Bare, write_map, read_map, write_out}
 use Rattle.paper.specs.Places.{layout_lists, Map}
 use Rattle.paper.specs.Printed.{printed}
 use Rattle.paper.specs.Quoted.{text, hex}
-use Rattle.paper.specs.Refusals.{Refusal, Answer, refused, given, plain, placed, figured}
+use Rattle.paper.specs.Refusals.{Refusal, Answer, plain, placed, figured}
 use Rattle.paper.specs.Runs.{Call, starts, writes, finishes, looks, started, wrote, finished, shown, denied, run}
 use Rattle.paper.specs.Sheets.{Sheet, read_sheet, write_sheet, name_of}
 
 -- the refusal of an answer, where it is one
 verdict : {A : Type 0} → Answer A → List Refusal
-verdict (refused r) = r ∷ []
-verdict (given a) = []
+verdict (Err r) = r ∷ []
+verdict (Ok a) = []
 
 -- a sheet of one task and some records after it
 one : List String → List String
@@ -84,8 +84,8 @@ first_fault = refl
 
 -- Reading gives back what was written out: the sheets of the figures are the writing-out of what is read of them, and so is the map.
 rewritten : Answer Sheet → List ℕ
-rewritten (refused r) = []
-rewritten (given sheet) = write_sheet sheet
+rewritten (Err r) = []
+rewritten (Ok sheet) = write_sheet sheet
 
 same_sheets : map (λ lines. rewritten (read_sheet (records lines))) (scale ∷ (three ++ ("08 00 03 00 01 00 02 00" ∷ "04 00 09 00" ∷ [])) ∷ [])
     ≡ map records (scale ∷ (three ++ ("08 00 03 00 01 00 02 00" ∷ "04 00 09 00" ∷ [])) ∷ [])
@@ -93,8 +93,8 @@ unfolding computed rewritten
 same_sheets = refl
 
 rewritten_map : Answer Map → List ℕ
-rewritten_map (refused r) = []
-rewritten_map (given m) = write_out m
+rewritten_map (Err r) = []
+rewritten_map (Ok m) = write_out m
 
 same_map : rewritten_map (read_map (records scale_map)) ≡ records scale_map
 unfolding computed rewritten_map
@@ -111,9 +111,9 @@ names = refl
 
 -- Lent lists: filled up to the count, too short, and a refusal, which changes neither.
 lists : layout_lists (records scale) (replicate 5 7) (replicate 6 9) ∷ layout_lists (records scale) (replicate 5 7) (replicate 3 9) ∷ layout_lists [] (7 ∷ []) (9 ∷ []) ∷ []
-    ≡ record { answer = given 4; addresses = 0 ∷ 0 ∷ 104 ∷ 136 ∷ 7 ∷ []; sizes = 104 ∷ 64 ∷ 32 ∷ 0 ∷ 9 ∷ 9 ∷ [] }
-    ∷ record { answer = refused (figured 18 4); addresses = replicate 5 7; sizes = replicate 3 9 }
-    ∷ record { answer = refused (placed 1 0); addresses = 7 ∷ []; sizes = 9 ∷ [] }
+    ≡ record { answer = Ok 4; addresses = 0 ∷ 0 ∷ 104 ∷ 136 ∷ 7 ∷ []; sizes = 104 ∷ 64 ∷ 32 ∷ 0 ∷ 9 ∷ 9 ∷ [] }
+    ∷ record { answer = Err (figured 18 4); addresses = replicate 5 7; sizes = replicate 3 9 }
+    ∷ record { answer = Err (placed 1 0); addresses = 7 ∷ []; sizes = 9 ∷ [] }
     ∷ []
 unfolding computed
 lists = refl
@@ -138,14 +138,14 @@ written : write_map (bare four their_sizes (1 ∷ 3 ∷ [])) (replicate 85 7)
     ∷ write_map (bare four their_sizes (1 ∷ 3 ∷ [])) (replicate 83 7)
     ∷ write_map (record { alignment = 1; total = 0; identities = 1 ∷ []; addresses = 0 ∷ []; sizes = 0 ∷ []; links = 1 ∷ 1 ∷ [] }) []
     ∷ []
-    ≡ record { answer = given 84; output = records scale_map ++ (7 ∷ []) }
-    ∷ record { answer = refused (placed 6 0); output = 7 ∷ [] }
-    ∷ record { answer = refused (placed 3 68); output = 7 ∷ [] }
-    ∷ record { answer = refused (placed 21 74); output = 7 ∷ [] }
-    ∷ record { answer = refused (placed 19 40); output = 7 ∷ [] }
-    ∷ record { answer = refused (placed 21 80); output = 7 ∷ [] }
-    ∷ record { answer = refused (figured 18 84); output = replicate 83 7 }
-    ∷ record { answer = refused (placed 21 32); output = [] }
+    ≡ record { answer = Ok 84; output = records scale_map ++ (7 ∷ []) }
+    ∷ record { answer = Err (placed 6 0); output = 7 ∷ [] }
+    ∷ record { answer = Err (placed 3 68); output = 7 ∷ [] }
+    ∷ record { answer = Err (placed 21 74); output = 7 ∷ [] }
+    ∷ record { answer = Err (placed 19 40); output = 7 ∷ [] }
+    ∷ record { answer = Err (placed 21 80); output = 7 ∷ [] }
+    ∷ record { answer = Err (figured 18 84); output = replicate 83 7 }
+    ∷ record { answer = Err (placed 21 32); output = [] }
     ∷ []
 unfolding computed bare four their_sizes
 written = refl

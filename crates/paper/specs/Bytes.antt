@@ -1,5 +1,5 @@
 -- Bytes and little-endian numbers, read and written; a part of a list; lent lists. A byte is a number below 256, a list of bytes a `List ℕ`.
-use Rattle.std.specs.Prelude.{Bool, List, [], ◌∷◌, ◌++◌, ℕ, ◌+◌, ◌*◌, ◌-◌, ◌/◌, ◌%◌, nat_le, get_or, take, drop, length}
+use Rattle.std.specs.Prelude.{Bool, List, [], ◌∷◌, ◌++◌, ℕ, ◌+◌, ◌*◌, ◌-◌, ◌/◌, ◌%◌, nat_le, slice_index, take, drop, length}
 
 -- n bytes are left from a place on
 abbrev pub has : List ℕ → ℕ → ℕ → Bool
@@ -7,7 +7,7 @@ has s at n = nat_le (at + n) (length s)
 
 -- "All numbers little-endian": the numbers of two and of four bytes at a place; bytes past the end count as 0
 abbrev pub le16 : List ℕ → ℕ → ℕ
-le16 s at = get_or s at 0 + 256 * get_or s (at + 1) 0
+le16 s at = slice_index s at + 256 * slice_index s (at + 1)
 
 abbrev pub le32 : List ℕ → ℕ → ℕ
 le32 s at = le16 s at + 65536 * le16 s (at + 2)

@@ -1,13 +1,12 @@
 -- "Dispatch": the state, when it is sound, opening, start, write, finish, look. Each step says its answer, and what state and area are afterwards.
-use Rattle.std.specs.Prelude.{Bool, cond, not, ◌&&◌, ◌||◌, List, [], ◌∷◌, ◌++◌, map, ℕ, zero, suc, ◌+◌, ◌-◌, ◌/◌, ◌%◌, ◌^◌, nat_le, nat_lt, nat_eq, get_or, length, set, replicate}
-use Rattle.std.proofs.Math.Option.{Option, none, some}
+use Rattle.std.specs.Prelude.{Bool, if◌then◌else◌, not, ◌&&◌, ◌||◌, List, [], ◌∷◌, ◌++◌, map, ℕ, zero, suc, ◌+◌, ◌-◌, ◌/◌, ◌%◌, ◌^◌, nat_le, nat_lt, ◌==◌, slice_index, slice_index_or, length, set, replicate, Option, Some, None, Ok, Err}
 use Rattle.paper.specs.Bytes.{Part, nowhere, put}
 use Rattle.paper.specs.Words.{each, least, listed, every}
 use Rattle.paper.specs.Limits.{most_tasks, most_size, most_area, is_alignment, is_count}
 use Rattle.paper.specs.Maps.{is_multiple}
 use Rattle.paper.specs.Places.{Nest, end_below, total_of, Map, layout_of}
 use Rattle.paper.specs.Preempting.{count, may, transitive}
-use Rattle.paper.specs.Refusals.{Refusal, Rule, ◌⇒◌, first, Answer, refused, given, unless, and_then, plain, figured}
+use Rattle.paper.specs.Refusals.{Refusal, Rule, ◌⇒◌, first, Answer, unless, and_then, plain, figured}
 use Rattle.paper.specs.Sheets.{Sheet, read_sheet}
 
 -- A held job: the index of its task, and its number
@@ -31,22 +30,22 @@ abbrev pub no_job : Held
 no_job = record { task = 0; number = 0 }
 
 abbrev pub bit : ℕ → ℕ → Bool
-bit row j = nat_eq (row / 2 ^ j % 2) 1
+bit row j = row / 2 ^ j % 2 == 1
 
 abbrev pub may_in : State → ℕ → ℕ → Bool
-may_in d i j = bit (get_or d.relation i 0) j
+may_in d i j = bit (slice_index d.relation i) j
 
 abbrev pub identity_at : State → ℕ → ℕ
-identity_at d i = get_or d.identities i 0
+identity_at d i = slice_index d.identities i
 
 abbrev pub size_at : State → ℕ → ℕ
-size_at d i = get_or d.sizes i 0
+size_at d i = slice_index d.sizes i
 
 abbrev pub address_at : State → ℕ → ℕ
-address_at d i = get_or d.addresses i 0
+address_at d i = slice_index d.addresses i
 
 abbrev pub held_at : State → ℕ → Held
-held_at d k = get_or d.held k no_job
+held_at d k = slice_index_or d.held k no_job
 
 abbrev pub nest_in : State → Nest
 nest_in d = record { count = d.count; may = may_in d; size = size_at d }
@@ -69,7 +68,7 @@ abbrev pub sized_at : State → ℕ → Bool
 sized_at d i = is_multiple d.alignment (size_at d i) && nat_le (size_at d i) most_size
 
 abbrev pub placed_by_rule : State → ℕ → Bool
-placed_by_rule d i = nat_eq (address_at d i) (end_below (nest_in d) (address_at d) i)
+placed_by_rule d i = address_at d i == end_below (nest_in d) (address_at d) i
 
 abbrev pub held_is_task : State → ℕ → Bool
 held_is_task d k = nat_lt (held_at d k).task d.count
@@ -116,7 +115,7 @@ slots nothing l = l ++ replicate (most_tasks - length l) nothing
 -- the number whose bits below n are those of p
 unfoldable pub row_of : ℕ → (ℕ → Bool) → ℕ
 row_of zero p = 0
-row_of (suc n) p = row_of n p + cond (p n) (2 ^ n) 0
+row_of (suc n) p = row_of n p + (if p n then 2 ^ n else 0)
 
 abbrev pub state_of : Sheet → Map → State
 state_of sheet m =
@@ -137,7 +136,7 @@ unfoldable pub opening : List ℕ → List ℕ → Answer State
 opening s area =
     and_then (read_sheet s) (λ sheet.
     and_then (layout_of sheet) (λ m.
-    unless (first (room_for m.total area ∷ [])) (given (state_of sheet m))))
+    unless (first (room_for m.total area ∷ [])) (Ok (state_of sheet m))))
 
 -- "A refused opening hands back a state of zeros throughout, with no tasks, which every step refuses under 36."
 abbrev pub no_state : State
@@ -155,8 +154,8 @@ no_state =
     }
 
 abbrev pub opened : Answer State → State
-opened (refused r) = no_state
-opened (given d) = d
+opened (Err r) = no_state
+opened (Ok d) = d
 
 -- Steps
 pub record Step (A : Type 0) : Type 0 where
@@ -166,8 +165,8 @@ pub record Step (A : Type 0) : Type 0 where
 
 -- "Lent memory and state stay the same" where a step is refused
 abbrev pub step : {A : Type 0} → Option Refusal → State → List ℕ → Step A → Step A
-step none d area next = next
-step (some r) d area next = record { answer = refused r; state = d; area = area }
+step None d area next = next
+step (Some r) d area next = record { answer = Err r; state = d; area = area }
 
 -- the running job, "the last held"
 abbrev pub running : State → Held
@@ -175,11 +174,11 @@ running d = held_at d (d.depth - 1)
 
 -- the task that an identity names; the count where it names none
 unfoldable pub task_in : State → ℕ → ℕ
-task_in d id = least d.count (λ i. nat_eq (identity_at d i) id)
+task_in d id = least d.count (λ i. identity_at d i == id)
 
 -- Start. "Allowed when nothing is held, or when the task may preempt the task of the running job"
 abbrev pub may_start : State → ℕ → Bool
-may_start d i = nat_eq d.depth 0 || may_in d i (running d).task
+may_start d i = d.depth == 0 || may_in d i (running d).task
 
 abbrev pub start_rules : State → List ℕ → ℕ → List (Rule Refusal)
 start_rules d area id = step_rules d area ++ (nat_lt (task_in d id) d.count ⇒ plain 31 ∷ may_start d (task_in d id) ⇒ plain 32 ∷ [])
@@ -215,11 +214,11 @@ unfoldable pub start : State → List ℕ → ℕ → Step Started
 start d area id =
     let i = task_in d id in
     step (first (start_rules d area id)) d area
-    (record { answer = given (record { address = address_at d i; number = d.next }); state = with_job d i; area = cleared d area i })
+    (record { answer = Ok (record { address = address_at d i; number = d.next }); state = with_job d i; area = cleared d area i })
 
 -- Write and finish. "Only the running job's number is compared."
 abbrev pub job_rules : State → List ℕ → ℕ → List (Rule Refusal)
-job_rules d area number = step_rules d area ++ (nat_lt 0 d.depth ⇒ plain 33 ∷ nat_eq (running d).number number ⇒ plain 34 ∷ [])
+job_rules d area number = step_rules d area ++ (nat_lt 0 d.depth ⇒ plain 33 ∷ ((running d).number == number) ⇒ plain 34 ∷ [])
 
 -- "Write a byte at an offset below the size, for a job number."
 abbrev pub write_rules : State → List ℕ → ℕ → ℕ → List (Rule Refusal)
@@ -228,7 +227,7 @@ write_rules d area number offset = job_rules d area number ++ (nat_lt offset (si
 unfoldable pub write : State → List ℕ → ℕ → ℕ → ℕ → Step (Unit {0})
 write d area number offset byte =
     step (first (write_rules d area number offset)) d area
-    (record { answer = given tt; state = d; area = set area (address_at d (running d).task + offset) byte })
+    (record { answer = Ok tt; state = d; area = set area (address_at d (running d).task + offset) byte })
 
 -- "Finish a job number. The job leaves"; its slot becomes 0
 abbrev pub without_job : State → State
@@ -254,12 +253,12 @@ unfoldable pub finish : State → List ℕ → ℕ → Step Finished
 finish d area number =
     let i = (running d).task in
     step (first (job_rules d area number)) d area
-    (record { answer = given (record { address = address_at d i; size = size_at d i }); state = without_job d; area = area })
+    (record { answer = Ok (record { address = address_at d i; size = size_at d i }); state = without_job d; area = area })
 
 -- "Look, for a job number: hands out the running job's place as a part of the area. Where finish would be refused it is the empty part at the area's start"
 abbrev pub place_of_finished : Answer Finished → Part
-place_of_finished (refused r) = nowhere
-place_of_finished (given f) = record { from = f.address; to = f.address + f.size }
+place_of_finished (Err r) = nowhere
+place_of_finished (Ok f) = record { from = f.address; to = f.address + f.size }
 
 unfoldable pub look : State → List ℕ → ℕ → Part
 look d area number = place_of_finished (finish d area number).answer

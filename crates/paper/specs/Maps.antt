@@ -1,11 +1,11 @@
 -- "Map records": the rules, reading, writing out, the writer from bare values, and the map built from a sheet.
-use Rattle.std.specs.Prelude.{Bool, true, false, cond, not, ◌&&◌, List, [], ◌∷◌, ◌++◌, map, ℕ, zero, suc, ◌+◌, ◌%◌, max, nat_le, nat_lt, nat_eq, length}
+use Rattle.std.specs.Prelude.{Bool, true, false, if◌then◌else◌, not, ◌&&◌, List, [], ◌∷◌, ◌++◌, map, ℕ, zero, suc, ◌+◌, ◌%◌, max, nat_le, nat_lt, ◌==◌, length, Ok, Err}
 use Rattle.paper.specs.Bytes.{le16, le32, put16, put32, over}
 use Rattle.paper.specs.Words.{among, last, named, joined}
 use Rattle.paper.specs.Limits.{most_area, most_size}
 use Rattle.paper.specs.Places.{Place, Map, layout, length_rule}
 use Rattle.paper.specs.Records.{Kind, map_head_kind, place_kind, link_kind, end_kind, kind_at, after, framing, record_of, end_record}
-use Rattle.paper.specs.Refusals.{Rule, ◌⇒◌, first, Answer, refused, given, unless, unless_at, and_then, placed}
+use Rattle.paper.specs.Refusals.{Rule, ◌⇒◌, first, Answer, unless, unless_at, and_then, placed}
 use Rattle.paper.specs.Sheets.{alignment_rule, count_rule, nothing_after}
 
 -- the end of a place; no place: what stands before the first, and what an identity that names no place gives
@@ -31,7 +31,7 @@ abbrev pub linked_end : Map → ℕ
 linked_end m = end_of (place_of m.places (last 0 m.links))
 
 abbrev pub is_multiple : ℕ → ℕ → Bool
-is_multiple alignment x = nat_eq (x % alignment) 0
+is_multiple alignment x = x % alignment == 0
 
 -- The rules of the fields, in order, for the reader and for the writer. Those of a place and of a link take the map as known up to there.
 
@@ -53,21 +53,21 @@ place_rules m p = is_place m p ⇒ 19 ∷ []
 
 -- "Directly after the last place: the total is the greatest end (20, place 0)."
 abbrev pub total_rules : Map → List (Rule ℕ)
-total_rules m = nat_eq m.total (greatest_end m.places) ⇒ 20 ∷ []
+total_rules m = (m.total == greatest_end m.places) ⇒ 20 ∷ []
 
 -- "Link: names a place, not linked before, its address is the previous link's end, 0 for the first (21)."
 abbrev pub is_link : Map → ℕ → Bool
 is_link m id =
     among id (identities m.places)
     && (not (among id m.links)
-    && nat_eq (place_of m.places id).address (linked_end m))
+    && (place_of m.places id).address == linked_end m)
 
 abbrev pub link_rules : Map → ℕ → List (Rule ℕ)
 link_rules m id = is_link m id ⇒ 21 ∷ []
 
 -- "On the end record: the last link's end is the total (21)."
 abbrev pub end_rules : Map → List (Rule ℕ)
-end_rules m = nat_eq (linked_end m) m.total ⇒ 21 ∷ []
+end_rules m = (linked_end m == m.total) ⇒ 21 ∷ []
 
 -- Reading: as for sheets, a walk that holds its place and the map as read so far.
 
@@ -104,12 +104,12 @@ link_or_end (l ∷ ls) = link_kind ∷ end_kind ∷ []
 
 -- links up to the end record; there are fewer records than bytes
 unfoldable pub read_links : ℕ → List ℕ → MapWalk → Answer MapWalk
-read_links zero s w = refused (placed 1 w.at)
+read_links zero s w = Err (placed 1 w.at)
 read_links (suc n) s w =
     let rest = read_links n s (past_link s w) in
     let this = unless_at w.at (first (link_rules w.read (link_at s w.at))) rest in
-    let ended = unless_at w.at (first (end_rules w.read)) (given (past_end s w)) in
-    unless_at w.at (first (framing (link_or_end w.read.links) s w.at)) (cond (nat_eq (kind_at s w.at) end_kind.kind) ended this)
+    let ended = unless_at w.at (first (end_rules w.read)) (Ok (past_end s w)) in
+    unless_at w.at (first (framing (link_or_end w.read.links) s w.at)) (if kind_at s w.at == end_kind.kind then ended else this)
 
 -- "the counted places", then the rest
 unfoldable pub read_places : ℕ → List ℕ → MapWalk → Answer MapWalk
@@ -129,7 +129,7 @@ read_map_records s =
 
 -- the map of a list of bytes, or the refusal
 unfoldable pub read_map : List ℕ → Answer Map
-read_map s = and_then (read_map_records s) (λ w. unless_at w.at (first (nothing_after s w.at)) (given w.read))
+read_map s = and_then (read_map_records s) (λ w. unless_at w.at (first (nothing_after s w.at)) (Ok w.read))
 
 -- Writing out
 
@@ -164,7 +164,7 @@ places_of (i ∷ il) (a ∷ al) (z ∷ zl) = record { identity = i; address = a;
 -- "Lists of identities, addresses and sizes that differ in length, or have a length outside 1 to 64, give 6": lists that differ count for none
 abbrev pub count_of : Bare → ℕ
 count_of b =
-    cond (nat_eq (length b.addresses) (length b.identities) && nat_eq (length b.sizes) (length b.identities)) (length b.identities) 0
+    if length b.addresses == length b.identities && length b.sizes == length b.identities then length b.identities else 0
 
 -- "A list of no links gives 3 at the place of the end record."
 abbrev pub is_linked : List ℕ → Bool
@@ -173,7 +173,7 @@ is_linked (l ∷ ls) = true
 
 -- "the place being where the record would start"
 unfoldable pub write_links : List ℕ → MapWalk → Answer Map
-write_links [] w = unless_at w.at (first (is_linked w.read.links ⇒ 3 ∷ end_rules w.read)) (given w.read)
+write_links [] w = unless_at w.at (first (is_linked w.read.links ⇒ 3 ∷ end_rules w.read)) (Ok w.read)
 write_links (l ∷ ls) w =
     let rest = write_links ls (record { at = w.at + length (link_record l); read = plus_link w.read l }) in
     unless_at w.at (first (link_rules w.read l)) rest
@@ -200,11 +200,11 @@ pub record Written : Type 0 where
   pub output : List ℕ
 
 abbrev pub into_output : Answer (List ℕ) → List ℕ → Written
-into_output (refused r) output = record { answer = refused r; output = output }
-into_output (given bytes) output = record { answer = given (length bytes); output = over bytes output }
+into_output (Err r) output = record { answer = Err r; output = output }
+into_output (Ok bytes) output = record { answer = Ok (length bytes); output = over bytes output }
 
 abbrev pub long_enough : List ℕ → List ℕ → Answer (List ℕ)
-long_enough output bytes = unless (first (length_rule (length bytes) output ∷ [])) (given bytes)
+long_enough output bytes = unless (first (length_rule (length bytes) output ∷ [])) (Ok bytes)
 
 abbrev pub write_into : Answer Map → List ℕ → Written
 write_into answer output = into_output (and_then answer (λ m. long_enough output (write_out m))) output

@@ -1,9 +1,9 @@
 -- "Places and chain": sizes, addresses, total, chain, the layout of a sheet, and the lent lists.
-use Rattle.std.specs.Prelude.{Bool, true, false, cond, ◌&&◌, List, [], ◌∷◌, ◌++◌, map, ℕ, zero, suc, ◌+◌, ◌*◌, ◌-◌, ◌/◌, nat_le, nat_eq, length}
+use Rattle.std.specs.Prelude.{Bool, true, false, if◌then◌else◌, ◌&&◌, List, [], ◌∷◌, ◌++◌, map, ℕ, zero, suc, ◌+◌, ◌*◌, ◌-◌, ◌/◌, nat_le, ◌==◌, length, Ok, Err}
 use Rattle.paper.specs.Bytes.{over}
 use Rattle.paper.specs.Words.{least, greatest, listed}
 use Rattle.paper.specs.Preempting.{task_no, count, may, transitive_rule}
-use Rattle.paper.specs.Refusals.{Refusal, Rule, ◌⇒◌, first, Answer, refused, given, unless, and_then, figured}
+use Rattle.paper.specs.Refusals.{Refusal, Rule, ◌⇒◌, first, Answer, unless, and_then, figured}
 use Rattle.paper.specs.Sheets.{Sheet, read_sheet}
 
 -- "Size is the need rounded up to a multiple of the alignment; 0 stays 0."
@@ -45,18 +45,18 @@ address_of sheet i = address_within (task_no sheet i).priority (nest_of sheet) i
 
 -- The chain. "the task with the greatest end, smallest identity on ties"
 unfoldable pub top_of : Nest → (ℕ → ℕ) → ℕ
-top_of nest a = least nest.count (λ i. nat_eq (a i + nest.size i) (total_of nest a))
+top_of nest a = least nest.count (λ i. a i + nest.size i == total_of nest a)
 
 -- "the smallest identity among tasks it may preempt whose end equals its address"
 unfoldable pub below_of : Nest → (ℕ → ℕ) → ℕ → ℕ
-below_of nest a i = least nest.count (λ j. nest.may i j && nat_eq (a j + nest.size j) (a i))
+below_of nest a i = least nest.count (λ j. nest.may i j && a j + nest.size j == a i)
 
 -- "then, while the address isn't 0 ... It is listed from the bottom up"; the depth is bounded as above
 unfoldable pub chain_to : ℕ → Nest → (ℕ → ℕ) → ℕ → List ℕ
 chain_to zero nest a i = i ∷ []
 chain_to (suc depth) nest a i =
     let below = chain_to depth nest a (below_of nest a i) in
-    cond (nat_eq (a i) 0) [] below ++ (i ∷ [])
+    (if a i == 0 then [] else below) ++ (i ∷ [])
 
 -- A place of a map, and a map: what a layout comes to
 pub record Place : Type 0 where
@@ -88,7 +88,7 @@ abbrev pub room_rule : Sheet → Map → Rule Refusal
 room_rule sheet m = nat_le m.total sheet.area ⇒ figured 17 m.total
 
 unfoldable pub layout_of : Sheet → Answer Map
-layout_of sheet = let m = map_of sheet in unless (first (transitive_rule sheet ∷ room_rule sheet m ∷ [])) (given m)
+layout_of sheet = let m = map_of sheet in unless (first (transitive_rule sheet ∷ room_rule sheet m ∷ [])) (Ok m)
 
 -- the layout of a sheet's bytes, or the refusal, 1 to 17
 unfoldable pub layout : List ℕ → Answer Map
@@ -106,10 +106,10 @@ pub record Lists : Type 0 where
 
 -- "Entries past the task count are kept."
 abbrev pub filled : Answer Map → List ℕ → List ℕ → Lists
-filled (refused r) addresses sizes = record { answer = refused r; addresses = addresses; sizes = sizes }
-filled (given m) addresses sizes =
+filled (Err r) addresses sizes = record { answer = Err r; addresses = addresses; sizes = sizes }
+filled (Ok m) addresses sizes =
     record {
-      answer = given (length m.places);
+      answer = Ok (length m.places);
       addresses = over (map (λ p. p.address) m.places) addresses;
       sizes = over (map (λ p. p.size) m.places) sizes;
     }
@@ -118,7 +118,7 @@ filled (given m) addresses sizes =
 abbrev pub both_long : List ℕ → List ℕ → Map → Answer Map
 both_long addresses sizes m =
     let n = length m.places in
-    unless (first (length_rule n addresses ∷ length_rule n sizes ∷ [])) (given m)
+    unless (first (length_rule n addresses ∷ length_rule n sizes ∷ [])) (Ok m)
 
 unfoldable pub layout_lists : List ℕ → List ℕ → List ℕ → Lists
 layout_lists s addresses sizes = filled (and_then (layout s) (both_long addresses sizes)) addresses sizes

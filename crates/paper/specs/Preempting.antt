@@ -1,5 +1,5 @@
 -- "Who may preempt whom". Tasks go by their index in the sheet, which rises with the identity; the tests of the relation are stated for any relation on the numbers below n.
-use Rattle.std.specs.Prelude.{Bool, not, ◌&&◌, ◌||◌, false, List, [], ◌∷◌, ℕ, nat_eq, get_or, length}
+use Rattle.std.specs.Prelude.{Bool, not, ◌&&◌, ◌||◌, false, List, [], ◌∷◌, ℕ, ◌==◌, slice_index_or, length}
 use Rattle.paper.specs.Words.{any, least}
 use Rattle.paper.specs.Refusals.{Refusal, Rule, ◌⇒◌, naming}
 use Rattle.paper.specs.Sheets.{Task, Bar, Sheet, no_task, exceeds}
@@ -7,10 +7,10 @@ use Rattle.paper.specs.Sheets.{Task, Bar, Sheet, no_task, exceeds}
 -- there is a bar (lower, upper)
 unfoldable pub barred : List Bar → ℕ → ℕ → Bool
 barred [] lower upper = false
-barred (b ∷ bs) lower upper = (nat_eq b.lower lower && nat_eq b.upper upper) || barred bs lower upper
+barred (b ∷ bs) lower upper = (b.lower == lower && b.upper == upper) || barred bs lower upper
 
 abbrev pub task_no : Sheet → ℕ → Task
-task_no sheet i = get_or sheet.tasks i no_task
+task_no sheet i = slice_index_or sheet.tasks i no_task
 
 abbrev pub count : Sheet → ℕ
 count sheet = length sheet.tasks

@@ -1,8 +1,8 @@
 -- What the layout program prints, as bytes: the lines of a layout, or the line of a refusal.
-use Rattle.std.specs.Prelude.{cond, List, [], ◌∷◌, ◌++◌, ℕ, zero, suc, ◌+◌, ◌/◌, ◌%◌, nat_lt}
+use Rattle.std.specs.Prelude.{if◌then◌else◌, List, [], ◌∷◌, ◌++◌, ℕ, zero, suc, ◌+◌, ◌/◌, ◌%◌, nat_lt, Ok, Err}
 use Rattle.paper.specs.Places.{Place, Map, layout_of}
 use Rattle.paper.specs.Quoted.{text}
-use Rattle.paper.specs.Refusals.{Refusal, Answer, refused, given}
+use Rattle.paper.specs.Refusals.{Refusal, Answer}
 use Rattle.paper.specs.Sheets.{Task, Sheet, read_sheet}
 
 -- a number in decimal digits, none of them a leading zero; a number has fewer digits than its value plus one
@@ -10,7 +10,7 @@ unfoldable pub digits : ℕ → ℕ → List ℕ
 digits zero n = []
 digits (suc most) n =
     let front = digits most (n / 10) in
-    cond (nat_lt n 10) [] front ++ ((0x30 + n % 10) ∷ [])
+    (if nat_lt n 10 then [] else front) ++ ((0x30 + n % 10) ∷ [])
 
 abbrev pub decimal : ℕ → List ℕ
 decimal n = digits (suc n) n
@@ -67,12 +67,12 @@ refusal_line r =
 
 -- what is printed of a sheet that was read, and of a list of bytes
 abbrev pub of_layout : Sheet → Answer Map → List ℕ
-of_layout sheet (refused r) = refusal_line r
-of_layout sheet (given m) = layout_lines sheet m
+of_layout sheet (Err r) = refusal_line r
+of_layout sheet (Ok m) = layout_lines sheet m
 
 abbrev pub of_sheet : Answer Sheet → List ℕ
-of_sheet (refused r) = refusal_line r
-of_sheet (given sheet) = of_layout sheet (layout_of sheet)
+of_sheet (Err r) = refusal_line r
+of_sheet (Ok sheet) = of_layout sheet (layout_of sheet)
 
 unfoldable pub printed : List ℕ → List ℕ
 printed s = of_sheet (read_sheet s)

@@ -1,5 +1,5 @@
 -- "A record is a two-byte length of the whole record, a two-byte kind, then fields." The kinds, with the lengths that suit them, and the checks on each record of a sheet or a map, one definition for both.
-use Rattle.std.specs.Prelude.{Bool, false, ◌&&◌, ◌||◌, List, [], ◌∷◌, ◌++◌, ℕ, ◌+◌, nat_le, nat_eq, length}
+use Rattle.std.specs.Prelude.{Bool, false, ◌&&◌, ◌||◌, List, [], ◌∷◌, ◌++◌, ℕ, ◌+◌, nat_le, ◌==◌, length}
 use Rattle.paper.specs.Bytes.{has, le16, put16}
 use Rattle.paper.specs.Limits.{shortest_name, longest_name}
 use Rattle.paper.specs.Refusals.{Rule, ◌⇒◌}
@@ -52,11 +52,11 @@ after s at = at + length_at s at
 -- a kind is one of those allowed; a length suits a kind
 abbrev pub allowed : ℕ → List Kind → Bool
 allowed k [] = false
-allowed k (a ∷ l) = nat_eq k a.kind || allowed k l
+allowed k (a ∷ l) = k == a.kind || allowed k l
 
 abbrev pub suits : ℕ → ℕ → List Kind → Bool
 suits k n [] = false
-suits k n (a ∷ l) = (nat_eq k a.kind && (nat_le a.shortest n && nat_le n a.longest)) || suits k n l
+suits k n (a ∷ l) = (k == a.kind && (nat_le a.shortest n && nat_le n a.longest)) || suits k n l
 
 -- "Checks on each record, in this order: four bytes are left (1); the kind is allowed here (3); the length suits the kind (2); the whole record is there (1)". The fields' own rules follow
 abbrev pub framing : List Kind → List ℕ → ℕ → List (Rule ℕ)

@@ -1,6 +1,5 @@
 -- What a refusal says, answers, and tables of tests: the first test that fails gives the refusal.
-use Rattle.std.specs.Prelude.{Bool, true, false, List, [], ◌∷◌, ℕ}
-use Rattle.std.proofs.Math.Option.{Option, none, some}
+use Rattle.std.specs.Prelude.{Bool, true, false, List, [], ◌∷◌, ℕ, Option, Some, None, Result, Ok, Err}
 
 -- "A refusal has a number, a place (start of the record at fault), three identities and a figure."
 pub record Refusal : Type 0 where
@@ -31,26 +30,25 @@ pub data Rule (A : Type 0) : Type 0 where
 infix 68 ◌⇒◌
 -- the first rule of a table that is broken
 abbrev pub first : {A : Type 0} → List (Rule A) → Option A
-first [] = none
+first [] = None
 first (true ⇒ a ∷ l) = first l
-first (false ⇒ a ∷ l) = some a
+first (false ⇒ a ∷ l) = Some a
 
--- an answer: a refusal, or what was asked for
-pub data Answer (A : Type 0) : Type 0 where
-  refused : Refusal → Answer A
-  given : A → Answer A
+-- an answer: what was asked for, or a refusal
+abbrev pub Answer : Type 0 → Type 0
+Answer A = Result A Refusal
 
 -- the answer behind a table of rules
 abbrev pub unless : {A : Type 0} → Option Refusal → Answer A → Answer A
-unless none answer = answer
-unless (some r) answer = refused r
+unless None answer = answer
+unless (Some r) answer = Err r
 
 -- the same for the rules of the record at a place
 abbrev pub unless_at : {A : Type 0} → ℕ → Option ℕ → Answer A → Answer A
-unless_at at none answer = answer
-unless_at at (some n) answer = refused (placed n at)
+unless_at at None answer = answer
+unless_at at (Some n) answer = Err (placed n at)
 
 -- what follows an answer that is no refusal
 abbrev pub and_then : {A B : Type 0} → Answer A → (A → Answer B) → Answer B
-and_then (refused r) next = refused r
-and_then (given a) next = next a
+and_then (Err r) next = Err r
+and_then (Ok a) next = next a

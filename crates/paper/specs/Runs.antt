@@ -1,8 +1,8 @@
 -- A run: calls one after the other, each given the state and the area that the last left.
-use Rattle.std.specs.Prelude.{List, [], ◌∷◌, ℕ}
+use Rattle.std.specs.Prelude.{List, [], ◌∷◌, ℕ, Ok, Err}
 use Rattle.paper.specs.Bytes.{Part}
 use Rattle.paper.specs.Dispatch.{State, Step, start, write, finish, look}
-use Rattle.paper.specs.Refusals.{Refusal, Answer, refused, given}
+use Rattle.paper.specs.Refusals.{Refusal, Answer}
 
 -- start a task; write a byte at an offset for a job; finish a job; look at a job's place
 pub data Call : Type 0 where
@@ -26,8 +26,8 @@ pub record Turn : Type 0 where
   pub area : List ℕ
 
 abbrev pub reply_of : {A : Type 0} → (A → Reply) → Answer A → Reply
-reply_of f (refused r) = denied r
-reply_of f (given a) = f a
+reply_of f (Err r) = denied r
+reply_of f (Ok a) = f a
 
 abbrev pub turn_of : {A : Type 0} → (A → Reply) → Step A → Turn
 turn_of f x = record { reply = reply_of f x.answer; state = x.state; area = x.area }

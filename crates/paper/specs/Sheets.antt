@@ -1,10 +1,10 @@
 -- "Sheet records": what a sheet says, its rules, reading, writing out, and where a task's name lies.
-use Rattle.std.specs.Prelude.{Bool, cond, ◌&&◌, ◌||◌, List, [], ◌∷◌, ◌++◌, map, ℕ, zero, suc, ◌+◌, nat_le, nat_lt, nat_eq, length}
+use Rattle.std.specs.Prelude.{Bool, if◌then◌else◌, ◌&&◌, ◌||◌, List, [], ◌∷◌, ◌++◌, map, ℕ, zero, suc, ◌+◌, nat_le, nat_lt, ◌==◌, length, Ok, Err}
 use Rattle.paper.specs.Bytes.{le16, le32, put16, put32, Part, nowhere, part}
 use Rattle.paper.specs.Words.{among, every, last, named, joined}
 use Rattle.paper.specs.Limits.{most_level, most_need, most_area, in_name, is_alignment, is_count}
 use Rattle.paper.specs.Records.{head_kind, task_kind, bar_kind, end_kind, before_name, kind_at, after, framing, record_of, end_record}
-use Rattle.paper.specs.Refusals.{Rule, ◌⇒◌, first, Answer, refused, given, unless_at, and_then, placed}
+use Rattle.paper.specs.Refusals.{Rule, ◌⇒◌, first, Answer, unless_at, and_then, placed}
 
 pub record Task : Type 0 where
   pub identity : ℕ
@@ -43,7 +43,7 @@ exceeds upper lower = nat_lt lower.threshold upper.priority
 
 -- "strictly rising order of (lower, upper)"
 abbrev pub rises : Bar → Bar → Bool
-rises a b = nat_lt a.lower b.lower || (nat_eq a.lower b.lower && nat_lt a.upper b.upper)
+rises a b = nat_lt a.lower b.lower || (a.lower == b.lower && nat_lt a.upper b.upper)
 
 -- The rules of the fields, in order. Those of a task and of a bar take the sheet as read up to there.
 
@@ -112,11 +112,11 @@ past_end s w = record { at = after s w.at; sheet = w.sheet }
 
 -- bars up to the end record. There are fewer records than bytes, so that the number of those that may still come never runs out
 unfoldable pub read_bars : ℕ → List ℕ → Walk → Answer Walk
-read_bars zero s w = refused (placed 1 w.at)
+read_bars zero s w = Err (placed 1 w.at)
 read_bars (suc n) s w =
     let rest = read_bars n s (past_bar s w) in
     let this = unless_at w.at (first (bar_rules w.sheet (bar_at s w.at))) rest in
-    unless_at w.at (first (framing (bar_kind ∷ end_kind ∷ []) s w.at)) (cond (nat_eq (kind_at s w.at) end_kind.kind) (given (past_end s w)) this)
+    unless_at w.at (first (framing (bar_kind ∷ end_kind ∷ []) s w.at)) (if kind_at s w.at == end_kind.kind then Ok (past_end s w) else this)
 
 -- "exactly the counted task records", then the rest
 unfoldable pub read_tasks : ℕ → List ℕ → Walk → Answer Walk
@@ -138,7 +138,7 @@ nothing_after s at = nat_le (length s) at ⇒ 15 ∷ []
 
 -- the sheet of a list of bytes, or the refusal, 1 to 15
 unfoldable pub read_sheet : List ℕ → Answer Sheet
-read_sheet s = and_then (read_records s 0) (λ w. unless_at w.at (first (nothing_after s w.at)) (given w.sheet))
+read_sheet s = and_then (read_records s 0) (λ w. unless_at w.at (first (nothing_after s w.at)) (Ok w.sheet))
 
 -- Writing out
 
@@ -160,11 +160,11 @@ name_from at [] id = nowhere
 name_from at (t ∷ ts) id =
     let next = at + length (task_record t) in
     let rest = name_from next ts id in
-    cond (nat_eq t.identity id) (record { from = at + before_name; to = next }) rest
+    if t.identity == id then record { from = at + before_name; to = next } else rest
 
 abbrev pub name_in : Answer Sheet → ℕ → Part
-name_in (refused r) id = nowhere
-name_in (given sheet) id = name_from (length (head_record sheet)) sheet.tasks id
+name_in (Err r) id = nowhere
+name_in (Ok sheet) id = name_from (length (head_record sheet)) sheet.tasks id
 
 unfoldable pub name_of : List ℕ → ℕ → Part
 name_of s id = name_in (read_sheet s) id

@@ -1,8 +1,8 @@
 -- The first 34,709 bytes of an input decide what is read of it as a sheet: records of a sheet are short, tasks are at most 64, and bars rise strictly among their pairs. So a program with a buffer of that size, or more, gives every input its right answer.
-use Rattle.std.specs.Prelude.{◌≡◌, Bool, true, false, cond, ◌&&◌, ◌||◌, nat_le, nat_lt, take, drop, refl, List, [], ◌∷◌, ◌++◌, map, ℕ, zero, suc, ◌+◌, ◌*◌, ◌-◌, ◌≤◌, ◌<◌, nat_eq, length}
+use Rattle.std.specs.Prelude.{◌≡◌, Bool, true, false, cond, ◌&&◌, ◌||◌, nat_le, nat_lt, take, drop, refl, List, [], ◌∷◌, ◌++◌, map, ℕ, zero, suc, ◌+◌, ◌*◌, ◌-◌, ◌≤◌, ◌<◌, nat_eq, length, Option, Some, None, Ok, Err}
 use Rattle.std.proofs.Common.{ap, sym, subst, ap₂, ◌∙◌, leb-true, leb-false, le-leb, ltb-true, ltb-false, length-drop, take-append-drop, length-take-le, take_all, get_or-take, mul-le-mul, arith, length-append}
 use Rattle.std.proofs.lemmas.Bool.{false≢true, lt-leb}
-use Rattle.std.proofs.Math.Option.{Option, none, some, some-ne-none}
+use Rattle.std.proofs.lemmas.Option.{none-some}
 use Rattle.std.proofs.Math.ListN.{length-map}
 use Rattle.std.proofs.lemmas.List.{drop-append-le, take-append-le}
 use Rattle.laws.specs.Lists.{last_snoc}
@@ -14,7 +14,7 @@ use Rattle.paper.specs.Bytes.{has, le16, le32, part}
 use Rattle.paper.specs.Limits.{most_area, is_alignment}
 use Rattle.paper.specs.Printed.{printed, of_sheet}
 use Rattle.paper.specs.Records.{Kind, length_at, kind_at, after, allowed, suits, framing, head_kind, task_kind, bar_kind, end_kind}
-use Rattle.paper.specs.Refusals.{Rule, ◌⇒◌, first, Answer, refused, given, unless_at, and_then}
+use Rattle.paper.specs.Refusals.{Rule, ◌⇒◌, first, Answer, unless_at, and_then}
 use Rattle.paper.specs.Sheets.{Task, Bar, Sheet, Walk, task_at, bar_at, task_rules, bar_rules, head_rules, past_head, past_task, past_bar, read_bars, read_tasks, read_records, nothing_after, read_sheet, no_bar, is_task, task_of, exceeds, rises}
 
 -- kinds of at most m bytes
@@ -36,48 +36,48 @@ suits_short m k l (a ∷ here) h e =
     go true false z q rest e = rest e
     go false y z q rest e = rest e
 
-framed_short : (m : ℕ) (here : List Kind) (s : List ℕ) (at : ℕ) → short m here ≡ true → first (framing here s at) ≡ none → length_at s at ≤ m
+framed_short : (m : ℕ) (here : List Kind) (s : List ℕ) (at : ℕ) → short m here ≡ true → first (framing here s at) ≡ None → length_at s at ≤ m
 framed_short m here s at h e = go (has s at 4) (allowed (kind_at s at) here) (suits (kind_at s at) (length_at s at) here) (has s at (length_at s at)) refl e
   where
-    go : (x y z v : Bool) → suits (kind_at s at) (length_at s at) here ≡ z → first {A = ℕ} (x ⇒ 1 ∷ y ⇒ 3 ∷ z ⇒ 2 ∷ v ⇒ 1 ∷ []) ≡ none → length_at s at ≤ m
+    go : (x y z v : Bool) → suits (kind_at s at) (length_at s at) here ≡ z → first {A = ℕ} (x ⇒ 1 ∷ y ⇒ 3 ∷ z ⇒ 2 ∷ v ⇒ 1 ∷ []) ≡ None → length_at s at ≤ m
     go true true true v q e = suits_short m (kind_at s at) (length_at s at) here h q
-    go true true false v q e = absurd (some-ne-none _ e)
-    go true false z v q e = absurd (some-ne-none _ e)
-    go false y z v q e = absurd (some-ne-none _ e)
+    go true true false v q e = absurd (none-some _ (sym e))
+    go true false z v q e = absurd (none-some _ (sym e))
+    go false y z v q e = absurd (none-some _ (sym e))
 
 abbrev EndsBefore : ℕ → Answer Walk → Type 0
-EndsBefore n (refused r) = Unit {0}
-EndsBefore n (given w) = w.at < n
+EndsBefore n (Err r) = Unit {0}
+EndsBefore n (Ok w) = w.at < n
 
-else_none : (o p : Option ℕ) → else o p ≡ none → o ≡ none
-else_none none p e = refl
-else_none (some k) p e = e
+else_none : (o p : Option ℕ) → else o p ≡ None → o ≡ None
+else_none None p e = refl
+else_none (Some k) p e = e
 
-else_rest : (o p : Option ℕ) → else o p ≡ none → p ≡ none
-else_rest none p e = e
-else_rest (some k) p e = absurd (some-ne-none k e)
+else_rest : (o p : Option ℕ) → else o p ≡ None → p ≡ None
+else_rest None p e = e
+else_rest (Some k) p e = absurd (none-some k (sym e))
 
-count_kept : (s : List ℕ) → first (head_rules (le16 s (0 + 4)) (le32 s (0 + 6)) (le16 s (0 + 10))) ≡ none → le16 s (0 + 10) ≤ 64
+count_kept : (s : List ℕ) → first (head_rules (le16 s (0 + 4)) (le32 s (0 + 6)) (le16 s (0 + 10))) ≡ None → le16 s (0 + 10) ≤ 64
 count_kept s e = go (is_alignment (le16 s (0 + 4))) (nat_le (le32 s (0 + 6)) most_area) (nat_le 1 (le16 s (0 + 10))) (nat_le (le16 s (0 + 10)) 64) refl e
   where
-    go : (x y z v : Bool) → nat_le (le16 s (0 + 10)) 64 ≡ v → first {A = ℕ} (x ⇒ 4 ∷ y ⇒ 5 ∷ (z && v) ⇒ 6 ∷ []) ≡ none → le16 s (0 + 10) ≤ 64
+    go : (x y z v : Bool) → nat_le (le16 s (0 + 10)) 64 ≡ v → first {A = ℕ} (x ⇒ 4 ∷ y ⇒ 5 ∷ (z && v) ⇒ 6 ∷ []) ≡ None → le16 s (0 + 10) ≤ 64
     go true true true true q e = leb-true (le16 s (0 + 10)) 64 q
-    go true true true false q e = absurd (some-ne-none 6 e)
-    go true true false v q e = absurd (some-ne-none 6 e)
-    go true false z v q e = absurd (some-ne-none 5 e)
-    go false y z v q e = absurd (some-ne-none 4 e)
+    go true true true false q e = absurd (none-some 6 (sym e))
+    go true true false v q e = absurd (none-some 6 (sym e))
+    go true false z v q e = absurd (none-some 5 (sym e))
+    go false y z v q e = absurd (none-some 4 (sym e))
 
 -- Two answers are the same, and where a walk is given it ends before n
 record Agree (n : ℕ) (x y : Answer Walk) : Type 0 where
   same : x ≡ y
   ends : EndsBefore n y
 
-agree_unless : (n at : ℕ) (o p : Option ℕ) (x y : Answer Walk) → o ≡ p → (p ≡ none → Agree n x y) → Agree n (unless_at at o x) (unless_at at p y)
+agree_unless : (n at : ℕ) (o p : Option ℕ) (x y : Answer Walk) → o ≡ p → (p ≡ None → Agree n x y) → Agree n (unless_at at o x) (unless_at at p y)
 agree_unless n at o p x y e h = rw e (go p h)
   where
-    go : (p : Option ℕ) → (p ≡ none → Agree n x y) → Agree n (unless_at at p x) (unless_at at p y)
-    go none h = h refl
-    go (some k) h = record { same = refl; ends = tt }
+    go : (p : Option ℕ) → (p ≡ None → Agree n x y) → Agree n (unless_at at p x) (unless_at at p y)
+    go None h = h refl
+    go (Some k) h = record { same = refl; ends = tt }
 
 agree_cond : (n : ℕ) (b c : Bool) (x y u v : Answer Walk) → b ≡ c → Agree n x u → Agree n y v → Agree n (cond b x y) (cond c u v)
 agree_cond n b c x y u v e p q = rw e (go c)
@@ -92,7 +92,7 @@ record Kept (sheet : Sheet) (b : Bar) : Type 0 where
   upper : is_task sheet.tasks b.upper ≡ true
   rising : rises (last no_bar sheet.bars) b ≡ true
 
-bar_kept : (sheet : Sheet) (b : Bar) → first (bar_rules sheet b) ≡ none → Kept sheet b
+bar_kept : (sheet : Sheet) (b : Bar) → first (bar_rules sheet b) ≡ None → Kept sheet b
 unfolding every
 bar_kept sheet b e =
     let l = is_task sheet.tasks b.lower in
@@ -137,8 +137,8 @@ module _ (n : ℕ) (s : List ℕ) (long : n < length s) where
           sym (rw (take-append-drop n s) at cut)
       go false e =
           let low = leb-false from to e in
-          let none : to - from ≡ 0 = omega arith in
-          rw none refl
+          let empty : to - from ≡ 0 = omega arith in
+          rw empty refl
 
   -- A record that lies in the front is framed alike, and says the same
   framing_same : (m : ℕ) (here : List Kind) (at : ℕ) → 4 ≤ m → short m here ≡ true → at + m ≤ n → first (framing here front at) ≡ first (framing here s at)
@@ -173,7 +173,7 @@ module _ (n : ℕ) (s : List ℕ) (long : n < length s) where
       (framing_same 8 (bar_kind ∷ end_kind ∷ []) w.at (omega arith) refl (omega arith)) (λ framed.
       let length8 = framed_short 8 (bar_kind ∷ end_kind ∷ []) s w.at refl framed in
       agree_cond n (nat_eq (kind_at front w.at) 9) (nat_eq (kind_at s w.at) 9) _ _ _ _ (ap (λ (k : ℕ). nat_eq k 9) (le16_same (w.at + 2) (omega arith)))
-      (record { same = ap (λ (l : ℕ). given (record { at = w.at + l; sheet = w.sheet })) (le16_same w.at (omega arith)); ends = omega arith })
+      (record { same = ap (λ (l : ℕ). Ok (record { at = w.at + l; sheet = w.sheet })) (le16_same w.at (omega arith)); ends = omega arith })
       (agree_unless n w.at (first (bar_rules w.sheet (bar_at front w.at))) (first (bar_rules w.sheet (bar_at s w.at))) _ _
       (ap (λ (b : Bar). first (bar_rules w.sheet b)) (bar_at_same w.at (omega arith))) (λ kept.
       let k = bar_kept w.sheet (bar_at s w.at) kept in
@@ -204,10 +204,10 @@ module _ (n : ℕ) (s : List ℕ) (long : n < length s) where
     where
       go : (o : Option ℕ) → first (framing (task_kind ∷ []) s w.at) ≡ o
           → else o (first (task_rules w.sheet (task_at front w.at))) ≡ else o (first (task_rules w.sheet (task_at s w.at)))
-      go none e =
+      go None e =
           let l = framed_short 30 (task_kind ∷ []) s w.at refl e in
           ap (λ (t : Task). first (task_rules w.sheet t)) (task_at_same w.at (omega arith) (omega arith))
-      go (some k) e = refl
+      go (Some k) e = refl
 
   tasks_same : (c : ℕ) (w : Walk) → length w.sheet.tasks + c ≤ 64 → w.at + 30 * c + 8 * 4096 + 8 < n → Agree n (read_tasks c front w) (read_tasks c s w)
   unfolding read_tasks
@@ -220,7 +220,7 @@ module _ (n : ℕ) (s : List ℕ) (long : n < length s) where
       bars_same 4096 (length front) (length s) w (omega arith) (omega arith) (omega arith) (omega arith)
   tasks_same (suc c) w few room =
       agree_unless n w.at (task_tests front w) (task_tests s w) _ _ (task_tests_same w (omega arith)) (λ kept.
-      let framed : first (framing (task_kind ∷ []) s w.at) ≡ none = else_none _ _ (sym (first_append (framing (task_kind ∷ []) s w.at) (task_rules w.sheet (task_at s w.at))) ∙ kept) in
+      let framed : first (framing (task_kind ∷ []) s w.at) ≡ None = else_none _ _ (sym (first_append (framing (task_kind ∷ []) s w.at) (task_rules w.sheet (task_at s w.at))) ∙ kept) in
       let l = framed_short 30 (task_kind ∷ []) s w.at refl framed in
       let more = length-append w.sheet.tasks (task_at s w.at ∷ []) in
       subst (λ (v : Walk). Agree n (read_tasks c front v) (read_tasks c s (past_task s w))) (sym (past_task_same w (omega arith) (omega arith)))
@@ -269,21 +269,21 @@ unfolding read_sheet
 prefix_decides s n room = go (nat_lt n (length s)) refl
   where
     ending : (long : n < length s) (x y : Answer Walk) → Agree n x y
-        → and_then x (λ w. unless_at w.at (first (nothing_after (take n s) w.at)) (given w.sheet))
-        ≡ and_then y (λ w. unless_at w.at (first (nothing_after s w.at)) (given w.sheet))
+        → and_then x (λ w. unless_at w.at (first (nothing_after (take n s) w.at)) (Ok w.sheet))
+        ≡ and_then y (λ w. unless_at w.at (first (nothing_after s w.at)) (Ok w.sheet))
     ending long x y a = rw a.same (last_step y a.ends)
       where
         last_step : (y : Answer Walk) → EndsBefore n y
-            → and_then y (λ w. unless_at w.at (first (nothing_after (take n s) w.at)) (given w.sheet))
-            ≡ and_then y (λ w. unless_at w.at (first (nothing_after s w.at)) (given w.sheet))
-        last_step (refused r) e = refl
-        last_step (given w) e =
+            → and_then y (λ w. unless_at w.at (first (nothing_after (take n s) w.at)) (Ok w.sheet))
+            ≡ and_then y (λ w. unless_at w.at (first (nothing_after s w.at)) (Ok w.sheet))
+        last_step (Err r) e = refl
+        last_step (Ok w) e =
             let l = front_length n s long in
             rw (lt-leb (length (take n s)) w.at (omega arith), lt-leb (length s) w.at (omega arith))
 
     go : (b : Bool) → nat_lt n (length s) ≡ b
-        → and_then (read_records (take n s) 0) (λ w. unless_at w.at (first (nothing_after (take n s) w.at)) (given w.sheet))
-        ≡ and_then (read_records s 0) (λ w. unless_at w.at (first (nothing_after s w.at)) (given w.sheet))
+        → and_then (read_records (take n s) 0) (λ w. unless_at w.at (first (nothing_after (take n s) w.at)) (Ok w.sheet))
+        ≡ and_then (read_records s 0) (λ w. unless_at w.at (first (nothing_after s w.at)) (Ok w.sheet))
     go true e = let long = ltb-true n (length s) e in ending long (read_records (take n s) 0) (read_records s 0) (records_same n s long (omega arith))
     go false e = let fits = ltb-false n (length s) e in rw (take_all n s fits)
 

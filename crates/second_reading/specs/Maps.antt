@@ -1,20 +1,20 @@
 -- Maps, accepted or with the refusal.
-use Rattle.std.specs.Prelude.{◌≡◌, refl, List, [], ◌∷◌, map, ℕ}
+use Rattle.std.specs.Prelude.{◌≡◌, refl, List, [], ◌∷◌, map, ℕ, Ok, Err}
 use Prim.Native.String.{String}
 use Rattle.paper.specs.Computing.{computed}
 use Rattle.paper.specs.Maps.{read_map}
 use Rattle.paper.specs.Places.{Map}
 use Rattle.paper.specs.Printed.{refusal_line}
 use Rattle.paper.specs.Quoted.{text, hex}
-use Rattle.paper.specs.Refusals.{Answer, refused, given}
+use Rattle.paper.specs.Refusals.{Answer}
 
 data Case : Type 0 where
   ◌is◌ : String → String → Case
 
 infix 68 ◌is◌
 line : Answer Map → List ℕ
-line (refused r) = refusal_line r
-line (given m) = text "accepted\n"
+line (Err r) = refusal_line r
+line (Ok m) = text "accepted\n"
 
 ours : Case → List ℕ
 ours (image is verdict) = line (read_map (hex image))

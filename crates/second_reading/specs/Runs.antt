@@ -1,12 +1,12 @@
 -- Runs: a sheet, an area, calls with their replies, and the area afterwards.
-use Rattle.std.specs.Prelude.{◌≡◌, refl, List, [], ◌∷◌, ◌++◌, map, ℕ}
+use Rattle.std.specs.Prelude.{◌≡◌, refl, List, [], ◌∷◌, ◌++◌, map, ℕ, Ok, Err}
 use Prim.Native.String.{String}
 use Rattle.paper.specs.Bytes.{part}
 use Rattle.paper.specs.Computing.{computed}
 use Rattle.paper.specs.Dispatch.{State, opening, opened}
 use Rattle.paper.specs.Printed.{decimal, line, refusal_line}
 use Rattle.paper.specs.Quoted.{text, hex}
-use Rattle.paper.specs.Refusals.{Answer, refused, given}
+use Rattle.paper.specs.Refusals.{Answer}
 use Rattle.paper.specs.Runs.{Call, starts, writes, finishes, looks, Reply, started, wrote, finished, shown, denied, turn}
 
 -- what is heard: a line, or the bytes looked at
@@ -39,8 +39,8 @@ play d area [] = area ∷ []
 play d area (c ∷ cs) = let t = turn d area c in reply area t.reply ∷ play t.state t.area cs
 
 opens : Answer State → List (List ℕ)
-opens (refused r) = refusal_line r ∷ []
-opens (given d) = []
+opens (Err r) = refusal_line r ∷ []
+opens (Ok d) = []
 
 ours : Case → List (List ℕ)
 ours c =

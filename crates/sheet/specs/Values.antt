@@ -1,11 +1,11 @@
 -- The paper's sheets, as the values that the code hands back, to the last slot.
-use Rattle.std.specs.Prelude.{List, [], ◌∷◌, ℕ, ◌+◌, length, replicate}
+use Rattle.std.specs.Prelude.{List, [], ◌∷◌, ℕ, ◌+◌, length, replicate, Ok, Err}
 use Rattle.frame.specs.Values.{verdict_value}
 use Rattle.paper.specs.Dispatch.{slots, row_of}
 use Rattle.paper.specs.Limits.{most_tasks}
 use Rattle.paper.specs.Preempting.{count, may}
 use Rattle.paper.specs.Records.{before_name}
-use Rattle.paper.specs.Refusals.{Answer, refused, given}
+use Rattle.paper.specs.Refusals.{Answer}
 use Rattle.paper.specs.Sheets.{head_record, task_record}
 use Rattle.paper.specs.Words.{listed}
 use Rattle.sheet.specs.declared.Sheet.{Sheet}
@@ -51,8 +51,8 @@ unfoldable pub no_sheet : Sheet
 no_sheet = record { alignment = 0; area = 0; count = 0; tasks = replicate most_tasks no_task; relation = replicate most_tasks 0 }
 
 abbrev pub sheet_if : Answer Sheets.Sheet → Sheet
-sheet_if (refused r) = no_sheet
-sheet_if (given sheet) = sheet_value sheet
+sheet_if (Err r) = no_sheet
+sheet_if (Ok sheet) = sheet_value sheet
 
 unfoldable pub sheet_read : Answer Sheets.Sheet → SheetRead
 sheet_read answer = record { verdict = verdict_value answer; sheet = sheet_if answer }
