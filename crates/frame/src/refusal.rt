@@ -82,6 +82,8 @@ impl Refusal {
         }
     }
 
+    // What a refusal doesn't speak of is 0 and not `None`: the rules have it so (`Refusals.plain`, `placed`).
+
     /// Where the record at fault starts; 0 where no record is.
     pub fn place(self) -> usize
         ensures { result ≡ (values_of self).place }

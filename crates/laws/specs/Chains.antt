@@ -1,5 +1,5 @@
 -- The chain, for any nest whose addresses meet the rule: it leads from address 0 to the top's end without a gap, each task of it may preempt the one before, and so its sizes add up.
-use Rattle.std.specs.Prelude.{◌≡◌, ◌&&◌, refl, Bool, true, false, cond, List, [], ◌∷◌, ◌++◌, ℕ, zero, suc, ◌+◌, ◌≤◌, ◌<◌, nat_eq}
+use Rattle.std.specs.Prelude.{◌≡◌, ◌&&◌, refl, Bool, true, false, if◌then◌else◌, List, [], ◌∷◌, ◌++◌, ℕ, zero, suc, ◌+◌, ◌≤◌, ◌<◌, ◌==◌}
 use Rattle.std.proofs.Common.{ap, sym, ◌∙◌, arith, eqb-true, eq-eqb}
 use borrow.Author.Tests.{eqb-false}
 use Rattle.laws.specs.Tests.{and_left, and_right}
@@ -44,22 +44,22 @@ module _ (nest : Nest) (a : ℕ → ℕ) where
   unfolding top_of
   top_below h =
       let r = total_attained nest a h in
-      least_below (λ i. nat_eq (a i + nest.size i) (total_of nest a)) nest.count r.index r.below (eq-eqb (a r.index + nest.size r.index) (total_of nest a) r.same)
+      least_below (λ i. (a i + nest.size i == total_of nest a)) nest.count r.index r.below (eq-eqb (a r.index + nest.size r.index) (total_of nest a) r.same)
 
   pub top_end : 0 < nest.count → a (top_of nest a) + nest.size (top_of nest a) ≡ total_of nest a
   top_end h = eqb-true (a (top_of nest a) + nest.size (top_of nest a)) (total_of nest a) (go h)
     where
-      go : 0 < nest.count → nat_eq (a (top_of nest a) + nest.size (top_of nest a)) (total_of nest a) ≡ true
-      go h = unfold top_of in least_hit (λ i. nat_eq (a i + nest.size i) (total_of nest a)) nest.count (top_below h)
+      go : 0 < nest.count → (a (top_of nest a) + nest.size (top_of nest a) == total_of nest a) ≡ true
+      go h = unfold top_of in least_hit (λ i. (a i + nest.size i == total_of nest a)) nest.count (top_below h)
 
   pub top_first : (i : ℕ) → i < top_of nest a → (a i + nest.size i ≡ total_of nest a) → ⊥
   unfolding top_of
-  top_first i h = eqb-false (a i + nest.size i) (total_of nest a) (least_first (λ i. nat_eq (a i + nest.size i) (total_of nest a)) nest.count i h)
+  top_first i h = eqb-false (a i + nest.size i) (total_of nest a) (least_first (λ i. (a i + nest.size i == total_of nest a)) nest.count i h)
 
   -- what stands under the top of a chain; the chain ends in its top
   abbrev pub under : ℕ → ℕ → List ℕ
   under zero i = []
-  under (suc f) i = cond (nat_eq (a i) 0) [] (chain_to f nest a (below_of nest a i))
+  under (suc f) i = (if (a i == 0) then [] else chain_to f nest a (below_of nest a i))
 
   pub chain_split : (f i : ℕ) → chain_to f nest a i ≡ under f i ++ (i ∷ [])
   unfolding chain_to
@@ -76,14 +76,14 @@ module _ (nest : Nest) (a : ℕ → ℕ) where
     pub found_below : (i : ℕ) → i < nest.count → (a i ≡ 0 → ⊥) → Below i
     unfolding below_of
     found_below i l h =
-        let p : ℕ → Bool = λ j. nest.may i j && nat_eq (a j + nest.size j) (a i) in
+        let p : ℕ → Bool = λ j. nest.may i j && (a j + nest.size j == a i) in
         let b = least_of_hit p nest.count (stands_on nest a rule i l h) in
         let e = least_hit p nest.count b in
         let j = least nest.count p in
         record {
           below = b;
-          over = and_left (nest.may i j) (nat_eq (a j + nest.size j) (a i)) e;
-          touches = eqb-true (a j + nest.size j) (a i) (and_right (nest.may i j) (nat_eq (a j + nest.size j) (a i)) e);
+          over = and_left (nest.may i j) (a j + nest.size j == a i) e;
+          touches = eqb-true (a j + nest.size j) (a i) (and_right (nest.may i j) (a j + nest.size j == a i) e);
         }
 
     module _ (level : ℕ → ℕ) (falls : IsFalling nest level) where
@@ -98,10 +98,10 @@ module _ (nest : Nest) (a : ℕ → ℕ) where
       pub chain_follows : (f i : ℕ) → i < nest.count → level i ≤ f → Follow nest a 0 (chain_to f nest a i) (a i + nest.size i)
       unfolding chain_to
       chain_follows zero i l h = (l, low_zero i l h, refl)
-      chain_follows (suc f) i l h = go (nat_eq (a i) 0) refl (λ j m d. chain_follows f j m d)
+      chain_follows (suc f) i l h = go (a i == 0) refl (λ j m d. chain_follows f j m d)
         where
-          go : (b : Bool) → nat_eq (a i) 0 ≡ b → ((j : ℕ) → j < nest.count → level j ≤ f → Follow nest a 0 (chain_to f nest a j) (a j + nest.size j))
-              → Follow nest a 0 (cond b [] (chain_to f nest a (below_of nest a i)) ++ (i ∷ [])) (a i + nest.size i)
+          go : (b : Bool) → (a i == 0) ≡ b → ((j : ℕ) → j < nest.count → level j ≤ f → Follow nest a 0 (chain_to f nest a j) (a j + nest.size j))
+              → Follow nest a 0 ((if b then [] else chain_to f nest a (below_of nest a i)) ++ (i ∷ [])) (a i + nest.size i)
           go true e k = (l, eqb-true (a i) 0 e, refl)
           go false e k =
               let t = found_below i l (eqb-false (a i) 0 e) in
@@ -112,10 +112,10 @@ module _ (nest : Nest) (a : ℕ → ℕ) where
       pub chain_climbs : (f i : ℕ) → i < nest.count → level i ≤ f → Climb nest (chain_to f nest a i)
       unfolding chain_to
       chain_climbs zero i l h = tt
-      chain_climbs (suc f) i l h = go (nat_eq (a i) 0) refl (λ j m d. chain_climbs f j m d)
+      chain_climbs (suc f) i l h = go (a i == 0) refl (λ j m d. chain_climbs f j m d)
         where
-          go : (b : Bool) → nat_eq (a i) 0 ≡ b → ((j : ℕ) → j < nest.count → level j ≤ f → Climb nest (chain_to f nest a j))
-              → Climb nest (cond b [] (chain_to f nest a (below_of nest a i)) ++ (i ∷ []))
+          go : (b : Bool) → (a i == 0) ≡ b → ((j : ℕ) → j < nest.count → level j ≤ f → Climb nest (chain_to f nest a j))
+              → Climb nest ((if b then [] else chain_to f nest a (below_of nest a i)) ++ (i ∷ []))
           go true e k = tt
           go false e k =
               let j = below_of nest a i in
@@ -133,10 +133,10 @@ module _ (nest : Nest) (a : ℕ → ℕ) where
       chain_enough zero zero i l h k = refl
       chain_enough zero (suc g) i l h k = rw (eq-eqb (a i) 0 (low_zero i l h))
       chain_enough (suc f) zero i l h k = rw (eq-eqb (a i) 0 (low_zero i l k))
-      chain_enough (suc f) (suc g) i l h k = go (nat_eq (a i) 0) refl (λ j m d e. chain_enough f g j m d e)
+      chain_enough (suc f) (suc g) i l h k = go (a i == 0) refl (λ j m d e. chain_enough f g j m d e)
         where
-          go : (b : Bool) → nat_eq (a i) 0 ≡ b → ((j : ℕ) → j < nest.count → level j ≤ f → level j ≤ g → chain_to f nest a j ≡ chain_to g nest a j)
-              → cond b [] (chain_to f nest a (below_of nest a i)) ++ (i ∷ []) ≡ cond b [] (chain_to g nest a (below_of nest a i)) ++ (i ∷ [])
+          go : (b : Bool) → (a i == 0) ≡ b → ((j : ℕ) → j < nest.count → level j ≤ f → level j ≤ g → chain_to f nest a j ≡ chain_to g nest a j)
+              → (if b then [] else chain_to f nest a (below_of nest a i)) ++ (i ∷ []) ≡ (if b then [] else chain_to g nest a (below_of nest a i)) ++ (i ∷ [])
           go true e r = refl
           go false e r =
               let j = below_of nest a i in

@@ -1,5 +1,5 @@
 -- The layout of a sheet whose thresholds are at least the priorities: the laws of nests and chains, for its own tasks and addresses.
-use Rattle.std.specs.Prelude.{◌≡◌, refl, true, List, map, ℕ, ◌+◌, ◌≤◌, ◌<◌, get_or, length}
+use Rattle.std.specs.Prelude.{◌≡◌, refl, true, List, map, ℕ, ◌+◌, ◌≤◌, ◌<◌, slice_index_or, length}
 use Rattle.std.proofs.Common.{◌∙◌, le_refl}
 use Rattle.laws.specs.Chains.{Follow, Climb, sizes, top_below, top_end, chain_follows, chain_climbs, chain_sizes}
 use Rattle.laws.specs.Levels.{ThresholdsCover, may_falls}
@@ -81,7 +81,7 @@ unfolding map_of
 map_of_length sheet = length_listed (count sheet) _
 
 pub map_of_place : (sheet : Sheet) (i : ℕ) → i < count sheet
-    → get_or (map_of sheet).places i no_place ≡ record { identity = (task_no sheet i).identity; address = address_of sheet i; size = size_of sheet i }
+    → slice_index_or (map_of sheet).places i no_place ≡ record { identity = (task_no sheet i).identity; address = address_of sheet i; size = size_of sheet i }
 unfolding map_of
 map_of_place sheet i l = get_or_listed (count sheet) _ i no_place l
 

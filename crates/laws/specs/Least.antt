@@ -1,5 +1,5 @@
 -- `least`: the smallest number below n that passes, n where none does. First as a loop counts up, then as a statement about all indices. Assumes nothing.
-use Rattle.std.specs.Prelude.{◌≡◌, Bool, ◌||◌, refl, true, false, cond, ℕ, zero, suc, ◌+◌, ◌≤◌, ◌<◌, nat_lt}
+use Rattle.std.specs.Prelude.{◌≡◌, Bool, ◌||◌, refl, true, false, if◌then◌else◌, ℕ, zero, suc, ◌+◌, ◌≤◌, ◌<◌, nat_lt}
 use Rattle.std.proofs.Common.{◌∙◌, add-one, le_refl, arith, ltb-true, ltb-false, lt-ltb, le-ltb}
 use Rattle.laws.specs.Tests.{not_both, last_or_below}
 use Rattle.laws.specs.Each.{Hit}
@@ -15,7 +15,7 @@ module _ (p : ℕ → Bool) where
   least_le zero = le_refl 0
   least_le (suc n) = go (nat_lt (least n p) n || p n) (least_le n)
     where
-      go : (b : Bool) → least n p ≤ n → cond b (least n p) (suc n) ≤ suc n
+      go : (b : Bool) → least n p ≤ n → (if b then least n p else suc n) ≤ suc n
       go true h = omega arith
       go false h = le_refl (suc n)
 

@@ -1,5 +1,5 @@
 -- `listed`, `among`, `every`, `last`, `named` and `joined` over lists, above all over `++`: a walk appends at the end. Assumes nothing.
-use Rattle.std.specs.Prelude.{◌≡◌, Bool, cond, ◌&&◌, ◌||◌, ◌⊎◌, length, get_or, refl, true, false, List, [], ◌∷◌, ◌++◌, map, ℕ, zero, suc, ◌+◌, ◌<◌, nat_eq}
+use Rattle.std.specs.Prelude.{◌≡◌, Bool, if◌then◌else◌, ◌&&◌, ◌||◌, ◌⊎◌, length, slice_index_or, refl, true, false, List, [], ◌∷◌, ◌++◌, map, ℕ, zero, suc, ◌+◌, ◌<◌, ◌==◌}
 use Rattle.std.proofs.Common.{ap, sym, ◌∙◌, inl, inr, add-one, arith, append_assoc, append-nil, eqb-true, eq-eqb}
 use Rattle.std.proofs.Math.Bool.{and-true, or-false, and_assoc, or_assoc}
 use borrow.Author.Tests.{eqb-false}
@@ -12,7 +12,7 @@ module _ {A : Type 0} where
   length_listed zero f = refl
   length_listed (suc n) f = ap suc (length_listed n (λ i. f (suc i)))
 
-  pub get_or_listed : (n : ℕ) (f : ℕ → A) (i : ℕ) (d : A) → i < n → get_or (listed n f) i d ≡ f i
+  pub get_or_listed : (n : ℕ) (f : ℕ → A) (i : ℕ) (d : A) → i < n → slice_index_or (listed n f) i d ≡ f i
   unfolding listed
   get_or_listed zero f i d h = absurd (omega arith)
   get_or_listed (suc n) f zero d h = refl
@@ -33,7 +33,7 @@ module _ {A : Type 0} where
   listed_step n f = rw add-one (listed_suc n f)
 
   -- a list is what stands at its places
-  pub listed_get_or : (l : List A) (d : A) → listed (length l) (λ i. get_or l i d) ≡ l
+  pub listed_get_or : (l : List A) (d : A) → listed (length l) (λ i. slice_index_or l i d) ≡ l
   unfolding listed
   listed_get_or [] d = refl
   listed_get_or (x ∷ l) d = ap (λ (r : List A). x ∷ r) (listed_get_or l d)
@@ -52,7 +52,7 @@ module _ {A : Type 0} where
   unfolding every
   every_snoc p l x = every_append p l (x ∷ []) ∙ ap (λ (b : Bool). every p l && b) (and-true (p x))
 
-  pub every_at : (p : A → Bool) (l : List A) → every p l ≡ true → (i : ℕ) (d : A) → i < length l → p (get_or l i d) ≡ true
+  pub every_at : (p : A → Bool) (l : List A) → every p l ≡ true → (i : ℕ) (d : A) → i < length l → p (slice_index_or l i d) ≡ true
   unfolding every
   every_at p [] e i d h = absurd (omega arith)
   every_at p (x ∷ l) e zero d h = and_left (p x) (every p l) e
@@ -67,7 +67,7 @@ module _ {A : Type 0} where
   unfolding last
   last_snoc z l x = last_append z l (x ∷ [])
 
-  pub last_get_or : (z : A) (l : List A) (n : ℕ) (d : A) → length l ≡ suc n → last z l ≡ get_or l n d
+  pub last_get_or : (z : A) (l : List A) (n : ℕ) (d : A) → length l ≡ suc n → last z l ≡ slice_index_or l n d
   unfolding last
   last_get_or z [] n d e = absurd (omega arith)
   last_get_or z (x ∷ []) zero d e = refl
@@ -95,10 +95,10 @@ module _ {A : Type 0} where
     pub named_has : (l : List A) (id : ℕ) → among id (map identity l) ≡ true → identity (named identity nobody l id) ≡ id
     unfolding named among
     named_has [] id e = cc
-    named_has (x ∷ l) id e = go (nat_eq (identity x) id) refl (or_cases (nat_eq id (identity x)) (among id (map identity l)) e) (λ h. named_has l id h)
+    named_has (x ∷ l) id e = go (identity x == id) refl (or_cases (id == identity x) (among id (map identity l)) e) (λ h. named_has l id h)
       where
-        go : (b : Bool) → nat_eq (identity x) id ≡ b → (nat_eq id (identity x) ≡ true) ⊎ (among id (map identity l) ≡ true)
-            → (among id (map identity l) ≡ true → identity (named identity nobody l id) ≡ id) → identity (cond b x (named identity nobody l id)) ≡ id
+        go : (b : Bool) → (identity x == id) ≡ b → ((id == identity x) ≡ true) ⊎ (among id (map identity l) ≡ true)
+            → (among id (map identity l) ≡ true → identity (named identity nobody l id) ≡ id) → identity (if b then x else named identity nobody l id) ≡ id
         go true q s k = eqb-true (identity x) id q
         go false q (inl h) k = let z = eqb-true id (identity x) h in absurd (eqb-false (identity x) id q (sym z))
         go false q (inr h) k = k h
@@ -106,29 +106,29 @@ module _ {A : Type 0} where
 pub among_append : (x : ℕ) (l m : List ℕ) → among x (l ++ m) ≡ (among x l || among x m)
 unfolding among
 among_append x [] m = refl
-among_append x (y ∷ l) m = ap (λ (b : Bool). nat_eq x y || b) (among_append x l m) ∙ sym (or_assoc (nat_eq x y) (among x l) (among x m))
+among_append x (y ∷ l) m = ap (λ (b : Bool). (x == y) || b) (among_append x l m) ∙ sym (or_assoc (x == y) (among x l) (among x m))
 
-pub among_snoc : (x : ℕ) (l : List ℕ) (y : ℕ) → among x (l ++ (y ∷ [])) ≡ (among x l || nat_eq x y)
+pub among_snoc : (x : ℕ) (l : List ℕ) (y : ℕ) → among x (l ++ (y ∷ [])) ≡ (among x l || (x == y))
 unfolding among
-among_snoc x l y = among_append x l (y ∷ []) ∙ ap (λ (b : Bool). among x l || b) (or-false (nat_eq x y))
+among_snoc x l y = among_append x l (y ∷ []) ∙ ap (λ (b : Bool). among x l || b) (or-false (x == y))
 
 -- what stands in the list stands at a place, and what stands at a place is in the list
 pub record Stands (x : ℕ) (l : List ℕ) : Type 0 where
   pub index : ℕ
   pub below : index < length l
-  pub same : get_or l index 0 ≡ x
+  pub same : slice_index_or l index 0 ≡ x
 
-pub among_at : (l : List ℕ) (i : ℕ) → i < length l → among (get_or l i 0) l ≡ true
+pub among_at : (l : List ℕ) (i : ℕ) → i < length l → among (slice_index_or l i 0) l ≡ true
 unfolding among
 among_at [] i h = absurd (omega arith)
-among_at (y ∷ l) zero h = or_left (nat_eq y y) (among y l) (eq-eqb y y refl)
-among_at (y ∷ l) (suc i) h = or_right (nat_eq (get_or l i 0) y) (among (get_or l i 0) l) (among_at l i (omega arith))
+among_at (y ∷ l) zero h = or_left (y == y) (among y l) (eq-eqb y y refl)
+among_at (y ∷ l) (suc i) h = or_right (slice_index_or l i 0 == y) (among (slice_index_or l i 0) l) (among_at l i (omega arith))
 
 pub among_stands : (x : ℕ) (l : List ℕ) → among x l ≡ true → Stands x l
 unfolding among
 among_stands x [] e = absurd (let z : ◌≡◌ {A = ℕ} 0 1 = cc in omega arith)
-among_stands x (y ∷ l) e = go (or_cases (nat_eq x y) (among x l) e) (λ h. among_stands x l h)
+among_stands x (y ∷ l) e = go (or_cases (x == y) (among x l) e) (λ h. among_stands x l h)
   where
-    go : (nat_eq x y ≡ true) ⊎ (among x l ≡ true) → (among x l ≡ true → Stands x l) → Stands x (y ∷ l)
+    go : ((x == y) ≡ true) ⊎ (among x l ≡ true) → (among x l ≡ true → Stands x l) → Stands x (y ∷ l)
     go (inl h) k = record { index = 0; below = omega arith; same = sym (eqb-true x y h) }
     go (inr h) k = let r = k h in record { index = suc r.index; below = omega arith; same = r.same }

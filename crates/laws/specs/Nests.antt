@@ -1,5 +1,5 @@
 -- The rule of addresses, for any nest: it has one solution where something falls along the relation, and it keeps tasks apart of which one may preempt the other.
-use Rattle.std.specs.Prelude.{◌≡◌, Bool, ◌&&◌, nat_le, refl, true, false, ℕ, zero, suc, ◌+◌, ◌≤◌, ◌<◌, nat_eq}
+use Rattle.std.specs.Prelude.{◌≡◌, Bool, ◌&&◌, nat_le, refl, true, false, ℕ, zero, suc, ◌+◌, ◌≤◌, ◌<◌, ◌==◌}
 use Rattle.std.proofs.Common.{ap, sym, ◌∙◌, le_refl, arith, leb-true, leb-false, eq-eqb}
 use Rattle.laws.specs.Tests.{and_both}
 use Rattle.laws.specs.Each.{Hit}
@@ -38,16 +38,16 @@ module _ (nest : Nest) where
   end_below_ge a i j l e = rw e at (greatest_ge (λ j. end_if (nest.may i j) nest a j) nest.count j l)
 
   -- where it isn't 0 it is the end of a task that i may preempt
-  pub end_below_hit : (a : ℕ → ℕ) (i : ℕ) → (end_below nest a i ≡ 0 → ⊥) → Hit nest.count (λ j. nest.may i j && nat_eq (a j + nest.size j) (end_below nest a i))
+  pub end_below_hit : (a : ℕ → ℕ) (i : ℕ) → (end_below nest a i ≡ 0 → ⊥) → Hit nest.count (λ j. nest.may i j && (a j + nest.size j == end_below nest a i))
   unfolding end_below
   end_below_hit a i h = go (nat_le nest.count 0) refl
     where
       hit : (j : ℕ) → j < nest.count → (t : Bool) → nest.may i j ≡ t → end_if t nest a j ≡ greatest nest.count (λ j. end_if (nest.may i j) nest a j)
-          → Hit nest.count (λ j. nest.may i j && nat_eq (a j + nest.size j) (greatest nest.count (λ j. end_if (nest.may i j) nest a j)))
+          → Hit nest.count (λ j. nest.may i j && (a j + nest.size j == (greatest nest.count (λ j. end_if (nest.may i j) nest a j))))
       hit j l true e s = record { index = j; below = l; passes = and_both (nest.may i j) _ e (eq-eqb _ _ s) }
       hit j l false e s = absurd (h (sym s))
 
-      go : (b : Bool) → nat_le nest.count 0 ≡ b → Hit nest.count (λ j. nest.may i j && nat_eq (a j + nest.size j) (greatest nest.count (λ j. end_if (nest.may i j) nest a j)))
+      go : (b : Bool) → nat_le nest.count 0 ≡ b → Hit nest.count (λ j. nest.may i j && (a j + nest.size j == (greatest nest.count (λ j. end_if (nest.may i j) nest a j))))
       go true e =
           let z = leb-true nest.count 0 e in
           absurd (h (greatest_none nest.count (λ j. end_if (nest.may i j) nest a j) (λ j l. absurd (omega arith))))
@@ -79,7 +79,7 @@ module _ (nest : Nest) where
     lies_above i j hi hj e = rw (rule i hi) (end_below_ge a i j hj e)
 
     -- where its address isn't 0, it stands right on one of them
-    pub stands_on : (i : ℕ) → i < nest.count → (a i ≡ 0 → ⊥) → Hit nest.count (λ j. nest.may i j && nat_eq (a j + nest.size j) (a i))
+    pub stands_on : (i : ℕ) → i < nest.count → (a i ≡ 0 → ⊥) → Hit nest.count (λ j. nest.may i j && (a j + nest.size j == a i))
     stands_on i l h = rw (rule i l) (end_below_hit a i (λ z. h (rule i l ∙ z)))
 
 module _ (nest : Nest) (level : ℕ → ℕ) (falls : IsFalling nest level) where

@@ -1,5 +1,5 @@
 -- Relations on the numbers below n: `transitive` is what it says, `smallest` is the smallest triple that breaks it, and a transitive irreflexive relation has a rank that falls, so that no chain in it is longer than n. Assumes nothing.
-use Rattle.std.specs.Prelude.{◌≡◌, refl, Bool, false, cond, not, ◌&&◌, List, [], ◌∷◌, ℕ, zero, suc, ◌+◌, ◌≤◌, ◌<◌, length, true}
+use Rattle.std.specs.Prelude.{◌≡◌, refl, Bool, false, if◌then◌else◌, not, ◌&&◌, List, [], ◌∷◌, ℕ, zero, suc, ◌+◌, ◌≤◌, ◌<◌, length, true}
 use Rattle.std.proofs.Common.{ap, le_refl, add-one, arith}
 use Rattle.std.proofs.lemmas.Bool.{not-true, not-false}
 use Rattle.laws.specs.Tests.{and_left, and_right, and_both, not_both, not_failed, last_or_below}
@@ -107,9 +107,9 @@ module _ (n : ℕ) (rel : ℕ → ℕ → Bool) where
 -- How many numbers below n pass
 unfoldable pub tally : ℕ → (ℕ → Bool) → ℕ
 tally zero p = 0
-tally (suc n) p = tally n p + cond (p n) 1 0
+tally (suc n) p = tally n p + (if p n then 1 else 0)
 
-cond_le : (a b : Bool) → (a ≡ true → b ≡ true) → cond a 1 0 ≤ cond b 1 0
+cond_le : (a b : Bool) → (a ≡ true → b ≡ true) → (if a then 1 else 0) ≤ (if b then 1 else 0)
 cond_le true b h = rw (h refl) (le_refl 1)
 cond_le false b h = omega arith
 

@@ -1,5 +1,5 @@
 -- Sizes and multiples: a need rounded up is the least multiple of the alignment that is not below it. Assumes nothing.
-use Rattle.std.specs.Prelude.{◌≡◌, Bool, true, false, ◌||◌, ◌⊎◌, ℕ, suc, ◌+◌, ◌*◌, ◌-◌, ◌/◌, ◌%◌, ◌≤◌, ◌<◌, nat_eq}
+use Rattle.std.specs.Prelude.{◌≡◌, Bool, true, false, ◌||◌, ◌⊎◌, ℕ, suc, ◌+◌, ◌*◌, ◌-◌, ◌/◌, ◌%◌, ◌≤◌, ◌<◌, ◌==◌}
 use Rattle.std.proofs.Common.{ap, sym, ◌∙◌, inl, inr, mod-lt, div-add-mod', div-lt_iff_lt-mul, mul-le-mul_right, zero-add, arith, eqb-true, eq-eqb}
 use Rattle.std.proofs.Math.Nat.{mul-mod_left, div-eq_of_lt, mod-add-mod}
 use Rattle.laws.specs.Tests.{or_cases}
@@ -22,10 +22,10 @@ pub multiple_sum : (g x y : ℕ) → IsMultiple g x → IsMultiple g y → IsMul
 multiple_sum g x y p q = sym (mod-add-mod x g y) ∙ ap (λ (n : ℕ). (n + y) % g) p ∙ ap (λ (n : ℕ). n % g) (zero-add y) ∙ q
 
 -- a listed alignment is one of seven numbers
-one_of : (P : ℕ → Type 0) (a n : ℕ) (rest : Bool) → P n → (rest ≡ true → P a) → (nat_eq a n || rest) ≡ true → P a
-one_of P a n rest p k e = go (or_cases (nat_eq a n) rest e)
+one_of : (P : ℕ → Type 0) (a n : ℕ) (rest : Bool) → P n → (rest ≡ true → P a) → ((a == n) || rest) ≡ true → P a
+one_of P a n rest p k e = go (or_cases (a == n) rest e)
   where
-    go : (nat_eq a n ≡ true) ⊎ (rest ≡ true) → P a
+    go : ((a == n) ≡ true) ⊎ (rest ≡ true) → P a
     go (inl h) = rw (eqb-true a n h) p
     go (inr h) = k h
 

@@ -1,5 +1,6 @@
 -- Tables of rules and the answers behind them: nothing is broken exactly if every test passes, and what is broken is the first. Assumes nothing.
 use Rattle.std.specs.Prelude.{◌≡◌, refl, Bool, ℕ, true, false, List, [], ◌∷◌, ◌++◌, Option, Some, None, Ok, Err}
+use Rattle.std.specs.Option.{option_or}
 use Rattle.std.proofs.Common.{ap, ◌∙◌, arith}
 use Rattle.paper.specs.Refusals.{Refusal, Rule, ◌⇒◌, first, Answer, unless, unless_at, and_then, placed}
 use Rattle.paper.specs.Words.{every}
@@ -8,13 +9,9 @@ use Rattle.paper.specs.Words.{every}
 abbrev pub test : {A : Type 0} → Rule A → Bool
 test (t ⇒ a) = t
 
--- what the first of two tables breaks, else what the second does
-abbrev pub else : {A : Type 0} → Option A → Option A → Option A
-else None o = o
-else (Some a) o = Some a
-
 module _ {A : Type 0} where
-  pub first_append : (l m : List (Rule A)) → first (l ++ m) ≡ else (first l) (first m)
+  -- what the first of two tables breaks, else what the second does
+  pub first_append : (l m : List (Rule A)) → first (l ++ m) ≡ option_or (first l) (first m)
   first_append [] m = refl
   first_append (true ⇒ a ∷ l) m = first_append l m
   first_append (false ⇒ a ∷ l) m = refl
@@ -48,7 +45,7 @@ module _ {A : Type 0} where
   some_broken (false ⇒ b ∷ l) a e = let q : b ≡ a = cc in record { before = []; behind = l; splits = ap (λ (x : A). false ⇒ x ∷ l) q; in_order = refl }
 
   pub broken_some : (l : List (Rule A)) (a : A) → Broken l a → first l ≡ Some a
-  broken_some l a b = ap first b.splits ∙ first_append b.before (false ⇒ a ∷ b.behind) ∙ ap (λ (o : Option A). else o (Some a)) (passes_none b.before b.in_order)
+  broken_some l a b = ap first b.splits ∙ first_append b.before (false ⇒ a ∷ b.behind) ∙ ap (λ (o : Option A). option_or o (Some a)) (passes_none b.before b.in_order)
 
   -- an answer is no refusal exactly if no rule is broken and what stands behind the table is no refusal
   pub record Passed (o : Option ℕ) (next : Answer A) (a : A) : Type 0 where

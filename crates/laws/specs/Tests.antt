@@ -1,5 +1,5 @@
 -- Tests joined by `and`, `or`, `not`, and the last of the numbers below n + 1. Assumes nothing.
-use Rattle.std.specs.Prelude.{◌≡◌, refl, Bool, true, false, ◌&&◌, ◌||◌, ◌⊎◌, ℕ, suc, ◌<◌, nat_eq}
+use Rattle.std.specs.Prelude.{◌≡◌, refl, Bool, true, false, ◌&&◌, ◌||◌, ◌⊎◌, ℕ, suc, ◌<◌, ◌==◌}
 use Rattle.std.proofs.Common.{sym, inl, inr, arith, eqb-true}
 use Rattle.std.proofs.lemmas.Bool.{eqb-false}
 
@@ -57,8 +57,8 @@ same_test false false f g = refl
 
 -- what is below n + 1 is n or below n
 pub last_or_below : {P : Type 0} (i n : ℕ) → i < suc n → (i ≡ n → P) → (i < n → P) → P
-last_or_below {P} i n h f g = go (nat_eq i n) refl
+last_or_below {P} i n h f g = go (i == n) refl
   where
-    go : (b : Bool) → nat_eq i n ≡ b → P
+    go : (b : Bool) → (i == n) ≡ b → P
     go true q = f (eqb-true i n q)
     go false q = let r = eqb-false i n q in g (omega arith)

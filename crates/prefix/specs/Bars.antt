@@ -1,5 +1,5 @@
 -- Bars rise strictly among the pairs of a sheet's tasks, so there are no more bars than pairs: with each bar that is read, fewer pairs are left.
-use Rattle.std.specs.Prelude.{◌≡◌, refl, true, false, ◌&&◌, List, ◌⊎◌, nat_lt, nat_eq, get_or, ℕ, suc, ◌+◌, ◌*◌, ◌/◌, ◌%◌, ◌≤◌, ◌<◌, length}
+use Rattle.std.specs.Prelude.{◌≡◌, refl, true, false, ◌&&◌, List, ◌⊎◌, nat_lt, ◌==◌, slice_index_or, ℕ, suc, ◌+◌, ◌*◌, ◌/◌, ◌%◌, ◌≤◌, ◌<◌, length}
 use Rattle.std.proofs.Common.{ap₂, sym, ◌∙◌, subst, inl, inr, ⊎_elim, mod-eq_of_lt, add-zero, ltb-true, eqb-true, lt-ltb, le-ltb, eq-eqb, mul-le-mul_right, suc-mul, arith}
 use Rattle.std.proofs.Math.Nat.{mul-add-div_right, mul-add-mod_self_right, div-eq_of_lt}
 use Rattle.laws.specs.Lists.{among_stands}
@@ -9,23 +9,23 @@ use Rattle.paper.specs.Sheets.{Bar, rises}
 use Rattle.paper.specs.Words.{among}
 
 -- The order of bars
-record Rising (a b : Bar) : Type 0 where
+record IsRising (a b : Bar) : Type 0 where
   order : (a.lower < b.lower) ⊎ ((a.lower ≡ b.lower) × (a.upper < b.upper))
 
-rises_true : (a b : Bar) → rises a b ≡ true → Rising a b
+rises_true : (a b : Bar) → rises a b ≡ true → IsRising a b
 rises_true a b e =
     record {
       order = ⊎_elim
           (λ p. inl (ltb-true a.lower b.lower p))
-          (λ p. inr (eqb-true a.lower b.lower (and_left (nat_eq a.lower b.lower) (nat_lt a.upper b.upper) p), ltb-true a.upper b.upper (and_right (nat_eq a.lower b.lower) (nat_lt a.upper b.upper) p)))
-          (or_cases (nat_lt a.lower b.lower) (nat_eq a.lower b.lower && nat_lt a.upper b.upper) e);
+          (λ p. inr (eqb-true a.lower b.lower (and_left (a.lower == b.lower) (nat_lt a.upper b.upper) p), ltb-true a.upper b.upper (and_right (a.lower == b.lower) (nat_lt a.upper b.upper) p)))
+          (or_cases (nat_lt a.lower b.lower) ((a.lower == b.lower) && nat_lt a.upper b.upper) e);
     }
 
 lower_rises : (a b : Bar) → a.lower < b.lower → rises a b ≡ true
-lower_rises a b h = or_left (nat_lt a.lower b.lower) (nat_eq a.lower b.lower && nat_lt a.upper b.upper) (lt-ltb a.lower b.lower h)
+lower_rises a b h = or_left (nat_lt a.lower b.lower) ((a.lower == b.lower) && nat_lt a.upper b.upper) (lt-ltb a.lower b.lower h)
 
 upper_rises : (a b : Bar) → a.lower ≡ b.lower → a.upper < b.upper → rises a b ≡ true
-upper_rises a b e h = or_right (nat_lt a.lower b.lower) (nat_eq a.lower b.lower && nat_lt a.upper b.upper) (rw (eq-eqb a.lower b.lower e, lt-ltb a.upper b.upper h))
+upper_rises a b e h = or_right (nat_lt a.lower b.lower) ((a.lower == b.lower) && nat_lt a.upper b.upper) (rw (eq-eqb a.lower b.lower e, lt-ltb a.upper b.upper h))
 
 pub rises_trans : (a b c : Bar) → rises a b ≡ true → rises b c ≡ true → rises a c ≡ true
 rises_trans a b c p q =
@@ -39,7 +39,7 @@ rises_not b = rw (le-ltb b.lower b.lower (omega arith), eq-eqb b.lower b.lower r
 
 -- The pairs of some identities, numbered, and how many of them lie above a bar
 abbrev pub pair_at : List ℕ → ℕ → Bar
-pair_at ids k = record { lower = get_or ids (k / length ids) 0; upper = get_or ids (k % length ids) 0 }
+pair_at ids k = record { lower = slice_index_or ids (k / length ids) 0; upper = slice_index_or ids (k % length ids) 0 }
 
 unfoldable pub left : List ℕ → Bar → ℕ
 left ids b = tally (length ids * length ids) (λ k. rises b (pair_at ids k))
@@ -53,7 +53,7 @@ module _ (ids : List ℕ) where
       omega arith
 
   -- the number of a pair of two identities
-  numbered : (i j : ℕ) → i < length ids → j < length ids → pair_at ids (i * length ids + j) ≡ record { lower = get_or ids i 0; upper = get_or ids j 0 }
+  numbered : (i j : ℕ) → i < length ids → j < length ids → pair_at ids (i * length ids + j) ≡ record { lower = slice_index_or ids i 0; upper = slice_index_or ids j 0 }
   numbered i j p q =
       let c = length ids in
       let d : (i * c + j) / c ≡ i = mul-add-div_right {m = c} (omega arith) i j ∙ rw (div-eq_of_lt q) (add-zero i) in

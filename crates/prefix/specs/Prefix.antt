@@ -1,12 +1,13 @@
 -- The first 34,709 bytes of an input decide what is read of it as a sheet: records of a sheet are short, tasks are at most 64, and bars rise strictly among their pairs. So a program with a buffer of that size, or more, gives every input its right answer.
-use Rattle.std.specs.Prelude.{◌≡◌, Bool, true, false, cond, ◌&&◌, ◌||◌, nat_le, nat_lt, take, drop, refl, List, [], ◌∷◌, ◌++◌, map, ℕ, zero, suc, ◌+◌, ◌*◌, ◌-◌, ◌≤◌, ◌<◌, nat_eq, length, Option, Some, None, Ok, Err}
+use Rattle.std.specs.Prelude.{◌≡◌, Bool, true, false, if◌then◌else◌, ◌&&◌, ◌||◌, nat_le, nat_lt, take, drop, refl, List, [], ◌∷◌, ◌++◌, map, ℕ, zero, suc, ◌+◌, ◌*◌, ◌-◌, ◌≤◌, ◌<◌, ◌==◌, length, Option, Some, None, Ok, Err}
 use Rattle.std.proofs.Common.{ap, sym, subst, ap₂, ◌∙◌, leb-true, leb-false, le-leb, ltb-true, ltb-false, length-drop, take-append-drop, length-take-le, take_all, get_or-take, mul-le-mul, arith, length-append}
 use Rattle.std.proofs.lemmas.Bool.{false≢true, lt-leb}
 use Rattle.std.proofs.lemmas.Option.{none-some}
 use Rattle.std.proofs.Math.ListN.{length-map}
 use Rattle.std.proofs.lemmas.List.{drop-append-le, take-append-le}
 use Rattle.laws.specs.Lists.{last_snoc}
-use Rattle.laws.specs.Tables.{else, first_append, none_passes}
+use Rattle.std.specs.Option.{option_or}
+use Rattle.laws.specs.Tables.{first_append, none_passes}
 use Rattle.laws.specs.Tests.{and_left, and_right}
 use Rattle.prefix.specs.Bars.{left, left_most, left_falls}
 use Rattle.paper.specs.Words.{last, every}
@@ -25,7 +26,7 @@ short m (k ∷ l) = nat_le k.longest m && short m l
 suits_short : (m k l : ℕ) (here : List Kind) → short m here ≡ true → suits k l here ≡ true → l ≤ m
 suits_short m k l [] h e = absurd (false≢true e)
 suits_short m k l (a ∷ here) h e =
-    go (nat_eq k a.kind) (nat_le a.shortest l) (nat_le l a.longest) refl (suits_short m k l here (and_right (nat_le a.longest m) (short m here) h)) e
+    go (k == a.kind) (nat_le a.shortest l) (nat_le l a.longest) refl (suits_short m k l here (and_right (nat_le a.longest m) (short m here) h)) e
   where
     go : (x y z : Bool) → nat_le l a.longest ≡ z → (suits k l here ≡ true → l ≤ m) → ((x && (y && z)) || suits k l here) ≡ true → l ≤ m
     go true true true q rest e =
@@ -49,11 +50,11 @@ abbrev EndsBefore : ℕ → Answer Walk → Type 0
 EndsBefore n (Err r) = Unit {0}
 EndsBefore n (Ok w) = w.at < n
 
-else_none : (o p : Option ℕ) → else o p ≡ None → o ≡ None
+else_none : (o p : Option ℕ) → option_or o p ≡ None → o ≡ None
 else_none None p e = refl
 else_none (Some k) p e = e
 
-else_rest : (o p : Option ℕ) → else o p ≡ None → p ≡ None
+else_rest : (o p : Option ℕ) → option_or o p ≡ None → p ≡ None
 else_rest None p e = e
 else_rest (Some k) p e = absurd (none-some k (sym e))
 
@@ -79,10 +80,10 @@ agree_unless n at o p x y e h = rw e (go p h)
     go None h = h refl
     go (Some k) h = record { same = refl; ends = tt }
 
-agree_cond : (n : ℕ) (b c : Bool) (x y u v : Answer Walk) → b ≡ c → Agree n x u → Agree n y v → Agree n (cond b x y) (cond c u v)
+agree_cond : (n : ℕ) (b c : Bool) (x y u v : Answer Walk) → b ≡ c → Agree n x u → Agree n y v → Agree n (if b then x else y) (if c then u else v)
 agree_cond n b c x y u v e p q = rw e (go c)
   where
-    go : (c : Bool) → Agree n (cond c x y) (cond c u v)
+    go : (c : Bool) → Agree n (if c then x else y) (if c then u else v)
     go true = p
     go false = q
 
@@ -172,7 +173,7 @@ module _ (n : ℕ) (s : List ℕ) (long : n < length s) where
       agree_unless n w.at (first (framing (bar_kind ∷ end_kind ∷ []) front w.at)) (first (framing (bar_kind ∷ end_kind ∷ []) s w.at)) _ _
       (framing_same 8 (bar_kind ∷ end_kind ∷ []) w.at (omega arith) refl (omega arith)) (λ framed.
       let length8 = framed_short 8 (bar_kind ∷ end_kind ∷ []) s w.at refl framed in
-      agree_cond n (nat_eq (kind_at front w.at) 9) (nat_eq (kind_at s w.at) 9) _ _ _ _ (ap (λ (k : ℕ). nat_eq k 9) (le16_same (w.at + 2) (omega arith)))
+      agree_cond n (kind_at front w.at == 9) (kind_at s w.at == 9) _ _ _ _ (ap (λ (k : ℕ). (k == 9)) (le16_same (w.at + 2) (omega arith)))
       (record { same = ap (λ (l : ℕ). Ok (record { at = w.at + l; sheet = w.sheet })) (le16_same w.at (omega arith)); ends = omega arith })
       (agree_unless n w.at (first (bar_rules w.sheet (bar_at front w.at))) (first (bar_rules w.sheet (bar_at s w.at))) _ _
       (ap (λ (b : Bar). first (bar_rules w.sheet b)) (bar_at_same w.at (omega arith))) (λ kept.
@@ -203,7 +204,7 @@ module _ (n : ℕ) (s : List ℕ) (long : n < length s) where
       ∙ sym (first_append (framing (task_kind ∷ []) s w.at) (task_rules w.sheet (task_at s w.at)))
     where
       go : (o : Option ℕ) → first (framing (task_kind ∷ []) s w.at) ≡ o
-          → else o (first (task_rules w.sheet (task_at front w.at))) ≡ else o (first (task_rules w.sheet (task_at s w.at)))
+          → option_or o (first (task_rules w.sheet (task_at front w.at))) ≡ option_or o (first (task_rules w.sheet (task_at s w.at)))
       go None e =
           let l = framed_short 30 (task_kind ∷ []) s w.at refl e in
           ap (λ (t : Task). first (task_rules w.sheet t)) (task_at_same w.at (omega arith) (omega arith))
@@ -236,7 +237,7 @@ module _ (n : ℕ) (s : List ℕ) (long : n < length s) where
   head_tests_same : 12 ≤ n → head_tests front ≡ head_tests s
   head_tests_same room =
       first_append (framing (head_kind ∷ []) front 0) (field_rules front)
-      ∙ ap₂ else (framing_same 12 (head_kind ∷ []) 0 (omega arith) refl (omega arith)) fields
+      ∙ ap₂ option_or (framing_same 12 (head_kind ∷ []) 0 (omega arith) refl (omega arith)) fields
       ∙ sym (first_append (framing (head_kind ∷ []) s 0) (field_rules s))
     where
       fields : first (field_rules front) ≡ first (field_rules s)

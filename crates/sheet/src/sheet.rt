@@ -10,7 +10,8 @@ pub struct Sheet {
     pub tasks: ArrayVec<Task, { Sheet::MOST_TASKS }>,
 
     /// Bit j of row i says that task i may preempt task j; rows past the tasks are 0.
-    // A plain array: a state of the dispatch has a row for each slot, past the tasks too, and takes this table whole.
+    // An array, since a list is no plainer: its length would have to be kept equal to that of `tasks`, and the opening of
+    // a dispatch would fill it up to 64 rows again (`Dispatch.state_of`, `slots`).
     pub relation: [u64; Sheet::MOST_TASKS],
 }
 
