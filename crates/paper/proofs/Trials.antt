@@ -1,4 +1,4 @@
--- The definitions tried on small cases that the figures of 01 leave open: the order of the checks, names, lent lists, bare values, and a nested run beside the same jobs run whole. All of it is computed.
+-- The definitions tried on small cases that the figures of the rules leave open: the order of the checks, names, lent lists, bare values, and a nested run beside the same jobs run whole. All of it is computed.
 use Rattle.std.proofs.Common.{◌≡◌, refl, List, [], ◌∷◌, ◌++◌, map, ℕ, replicate, set, Ok, Err}
 use Prim.Native.String.{String}
 use Rattle.paper.specs.Bytes.{Part, nowhere}
@@ -150,7 +150,7 @@ written : write_map (bare four their_sizes (1 ∷ 3 ∷ [])) (replicate 85 7)
 unfolding computed bare four their_sizes
 written = refl
 
--- Both sets of Table II of source document 000. In the second, the chain goes through T8, which has no bytes, since 8 is the smallest identity with its end.
+-- Both sets of Table II of the EMPRESS paper. In the second, the chain goes through T8, which has no bytes, since 8 is the smallest identity with its end.
 fly_by_wire : List String
 fly_by_wire =
     "0C 00 01 00 04 00 00 02 00 00 05 00"

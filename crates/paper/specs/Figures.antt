@@ -1,4 +1,4 @@
--- "Figures to check against": the rows that 01 marks (P), one table under one theorem, computed from the bytes to the answers.
+-- "Figures to check against": the rows that the rules mark (P), one table under one theorem, computed from the bytes to the answers.
 use Rattle.std.specs.Prelude.{◌≡◌, refl, List, [], ◌∷◌, ◌++◌, map, ℕ, length, replicate}
 use Prim.Native.String.{String}
 use Rattle.paper.specs.Computing.{computed}

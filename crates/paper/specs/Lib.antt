@@ -1,4 +1,4 @@
--- Document 01, a file a section, in its order. READING.md leads from its sentences to these definitions.
+-- The rules of docs/RULES.md, a file a section, in their order. READING.md leads from their sentences to these definitions.
 pub mod Words
 pub mod Bytes
 pub mod Refusals

@@ -1,4 +1,4 @@
--- The words in which 01 speaks of numbers below n and of lists: each, some, the smallest, the greatest, the last, the one of an identity.
+-- The words in which the rules speak of numbers below n and of lists: each, some, the smallest, the greatest, the last, the one of an identity.
 use Rattle.std.specs.Prelude.{Bool, true, false, if◌then◌else◌, ◌&&◌, ◌||◌, List, [], ◌∷◌, ◌++◌, ℕ, zero, suc, max, nat_lt, ◌==◌}
 
 -- p holds of each number below n

@@ -1,2 +1,2 @@
-// Document 01 as definitions: all of it is in specs/, and there is no code here. What the definitions are tried on is in proofs/.
+// The rules as definitions: all of it is in specs/, and there is no code here. What the definitions are tried on is in proofs/.
 #![tactic(auto)]
