@@ -61,6 +61,17 @@ pub enum Refusal {
     NotSound,
 }
 
+impl Fault {
+    ghost use Rattle.frame.specs.declared.refusal.Refusal.TheVariants as refusal;
+
+    /// The refusal of the record that starts at `place`.
+    pub fn at(self, place: usize) -> Refusal
+        ensures { result ≡ refusal.Record self place }
+    {
+        Refusal::Record { fault: self, place }
+    }
+}
+
 impl Refusal {
     ghost use Rattle.frame.specs.Values.{values_of};
 

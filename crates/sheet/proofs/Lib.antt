@@ -1,1 +1,10 @@
+pub mod Bars
 pub mod Limits
+pub mod Lookup
+pub mod Names
+pub mod Reading
+pub mod Rows
+pub mod Tasks
+pub mod Words
+pub mod Steps
+pub mod NameParts

@@ -1,1 +1,4 @@
 pub mod Values
+pub mod Within
+pub mod Walks
+pub mod Steps

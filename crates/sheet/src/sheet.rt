@@ -1,6 +1,21 @@
 //! A sheet, in fixed memory: a heap that runs out would be a refusal that no rule gives.
+ghost use Rattle.std.specs.Prelude.{◌≡◌};
+ghost use Rattle.paper.specs.Limits.{is_alignment};
+
 use crate::Task;
+use crate::barring::Barring;
+use crate::head::Head;
+use crate::tasked::Tasked;
 use arrayvec::ArrayVec;
+use frame::{Fault, Refusal};
+
+// Whether an alignment is one of those that a sheet may have.
+#[tactic(auto, unfolding(paper::specs::Words::among))]
+fn is_alignment(alignment: u16) -> bool
+    ensures { result ≡ is_alignment alignment }
+{
+    matches!(alignment, 1 | 2 | 4 | 8 | 16 | 32 | 64)
+}
 
 /// The tasks of a sheet in the sheet's order, and who may preempt whom.
 #[derive(Clone, Debug, PartialEq, Eq, Drop)]
@@ -16,5 +31,49 @@ pub struct Sheet {
 }
 
 impl Sheet {
+    ghost use Rattle.std.specs.Result.{result_map_both};
+    ghost use Rattle.frame.specs.Values.{answer_of, fault_number};
+    ghost use Rattle.paper.specs.Sheets.{read_sheet};
+    ghost use Rattle.sheet.specs.Values.{sheet_read};
+    ghost use Rattle.sheet.specs.Within.{sheet_within};
+
     pub const MOST_TASKS: usize = 64;
+
+    pub const MOST_AREA: u32 = 16_777_216;
+
+    /// A sheet within the limits, without tasks, or the first limit that it breaks.
+    pub fn new(alignment: u16, area: u32) -> Result<Sheet, Fault>
+        ensures { result_map_both (λ sheet. sheet) fault_number result ≡ sheet_within alignment area }
+    {
+        if !is_alignment(alignment) {
+            return Err(Fault::Alignment);
+        }
+        if area > Sheet::MOST_AREA {
+            return Err(Fault::Area);
+        }
+        let relation = [0; Sheet::MOST_TASKS];
+        Ok(Sheet {
+            alignment,
+            area,
+            tasks: ArrayVec::new(),
+            relation,
+        })
+    }
+
+    /// The sheet that some bytes say, or what is wrong with them.
+    pub fn read(bytes: &[u8]) -> Result<Sheet, Refusal>
+        ensures { answer_of result ≡ sheet_read (read_sheet bytes.now) }
+    {
+        let head = Head::read(bytes)?;
+        let tasked = Tasked::read(bytes, head.end, head.count)?;
+        let barring = Barring::read(bytes, &tasked.tasks, tasked.at)?;
+        if barring.at < bytes.len() {
+            return Err(Fault::BytesAfterEnd.at(barring.at));
+        }
+        let mut sheet = head.sheet;
+        sheet.tasks = tasked.tasks;
+        let rows = barring.rows;
+        sheet.relation = rows;
+        Ok(sheet)
+    }
 }
