@@ -1,11 +1,11 @@
 -- Relations on the numbers below n: `transitive` is what it says, `smallest` is the smallest triple that breaks it, and a transitive irreflexive relation has a rank that falls, so that no chain in it is longer than n. Assumes nothing.
 use Rattle.std.specs.Prelude.{◌≡◌, refl, Bool, false, if◌then◌else◌, not, ◌&&◌, List, [], ◌∷◌, ℕ, zero, suc, ◌+◌, ◌≤◌, ◌<◌, length, true}
-use Rattle.std.proofs.Common.{ap, le_refl, add-one, arith}
+use Rattle.std.proofs.Common.{ap, ◌∙◌, le_refl, add-one, arith}
 use Rattle.std.proofs.lemmas.Bool.{not-true, not-false}
 use Rattle.laws.specs.Tests.{and_left, and_right, and_both, not_both, not_failed, last_or_below}
 use Rattle.laws.specs.Each.{any_at, any_hit, any_ext}
-use Rattle.laws.specs.Least.{least_hit, least_at, least_of_hit}
-use Rattle.paper.specs.Words.{any}
+use Rattle.laws.specs.Least.{least_hit, least_at, least_of_hit, least_ext}
+use Rattle.paper.specs.Words.{any, least}
 use Rattle.paper.specs.Preempting.{breaks, breaks_over, breaks_above, transitive, smallest}
 
 module _ (n : ℕ) (rel : ℕ → ℕ → Bool) where
@@ -190,10 +190,32 @@ module _ (n : ℕ) (rel : ℕ → ℕ → Bool) (irr : IsIrreflexive n rel) wher
         let b = rank_below (h d) (low d (le_refl (suc d))) in
         omega arith
 
--- relations that agree below n are transitive together, and have the same smallest triple
-pub transitive_ext : (n : ℕ) (r s : ℕ → ℕ → Bool) → ((i j : ℕ) → i < n → j < n → r i j ≡ s i j) → transitive n r ≡ transitive n s
-unfolding transitive breaks_above breaks_over
-transitive_ext n r s h =
-    ap not (any_ext n (λ k. breaks_above n r k) (λ k. breaks_above n s k) (λ k hk.
-    any_ext n (λ j. breaks_over n r k j) (λ j. breaks_over n s k j) (λ j hj.
-    any_ext n (λ i. breaks r k j i) (λ i. breaks s k j i) (λ i hi. rw (h j k hj hk, h i j hi hj, h i k hi hk)))))
+-- relations that agree below n are transitive together, and where they are not they have the same smallest triple
+module _ (n : ℕ) (r s : ℕ → ℕ → Bool) (h : (i j : ℕ) → i < n → j < n → r i j ≡ s i j) where
+  breaks_ext : (k j : ℕ) → k < n → j < n → (i : ℕ) → i < n → breaks r k j i ≡ breaks s k j i
+  breaks_ext k j hk hj i hi = rw (h j k hj hk, h i j hi hj, h i k hi hk)
+
+  over_ext : (k : ℕ) → k < n → (j : ℕ) → j < n → breaks_over n r k j ≡ breaks_over n s k j
+  unfolding breaks_over
+  over_ext k hk j hj = any_ext n (λ i. breaks r k j i) (λ i. breaks s k j i) (breaks_ext k j hk hj)
+
+  above_ext : (k : ℕ) → k < n → breaks_above n r k ≡ breaks_above n s k
+  unfolding breaks_above
+  above_ext k hk = any_ext n (λ j. breaks_over n r k j) (λ j. breaks_over n s k j) (over_ext k hk)
+
+  pub transitive_ext : transitive n r ≡ transitive n s
+  unfolding transitive
+  transitive_ext = ap not (any_ext n (λ k. breaks_above n r k) (λ k. breaks_above n s k) above_ext)
+
+  pub smallest_ext : transitive n r ≡ false → smallest n r ≡ smallest n s
+  unfolding smallest
+  smallest_ext e =
+      let b = smallest_breaks n r e in
+      let k = (smallest n r).k in
+      let j = (smallest n r).j in
+      let third : ℕ → ℕ → ℕ = λ x y. least n (λ i. breaks s x y i) in
+      let second : ℕ → ℕ = λ x. least n (λ y. breaks_over n s x y) in
+      ap (λ (i : ℕ). record { k = k; j = j; i = i }) (least_ext n (λ i. breaks r k j i) (λ i. breaks s k j i) (breaks_ext k j b.k_below b.j_below))
+      ∙ ap (λ (y : ℕ). record { k = k; j = y; i = third k y }) (least_ext n (λ y. breaks_over n r k y) (λ y. breaks_over n s k y) (over_ext k b.k_below))
+      ∙ ap (λ (x : ℕ). record { k = x; j = second x; i = third x (second x) })
+      (least_ext n (λ x. breaks_above n r x) (λ x. breaks_above n s x) above_ext)

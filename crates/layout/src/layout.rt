@@ -1,5 +1,11 @@
 //! A layout, and the sheet that it is of.
+ghost use Rattle.std.specs.Prelude.{◌≡◌, Ok};
+
+use crate::chain::{chain, total};
+use crate::places::places;
+use crate::transitive;
 use arrayvec::ArrayVec;
+use frame::Refusal;
 use sheet::Sheet;
 
 /// The place of a task in the block.
@@ -24,4 +30,47 @@ pub struct Layout {
 pub struct LaidOut {
     pub sheet: Sheet,
     pub layout: Layout,
+}
+
+impl Layout {
+    ghost use Rattle.std.specs.Result.{result_map_both};
+    ghost use Rattle.frame.specs.Values.{values_of};
+    ghost use Rattle.layout.specs.Nests.{layout_here, rules_here, IsOrderly};
+    ghost use Rattle.paper.specs.Refusals.{first, unless};
+
+    // The layout of a sheet that was read.
+    fn of(sheet: &Sheet) -> Result<Layout, Refusal>
+        requires { IsOrderly sheet.now }
+        ensures { result_map_both (λ layout. layout) values_of result ≡ unless (first (rules_here sheet.now)) (Ok (layout_here sheet.now)) }
+    {
+        transitive::check(sheet)?;
+        let places = places(sheet);
+        let total = total(&places);
+        if total > sheet.area {
+            return Err(Refusal::TotalAboveArea {
+                total: total as usize,
+            });
+        }
+        let chain = chain(sheet, &places);
+        Ok(Layout {
+            alignment: sheet.alignment,
+            total,
+            places,
+            chain,
+        })
+    }
+}
+
+impl LaidOut {
+    ghost use Rattle.frame.specs.Values.{answer_of};
+    ghost use Rattle.layout.specs.Values.{laid_out};
+
+    /// The sheet that some bytes say, with its layout, or why there is none.
+    pub fn read(bytes: &[u8]) -> Result<LaidOut, Refusal>
+        ensures { answer_of result ≡ laid_out bytes.now }
+    {
+        let sheet = Sheet::read(bytes)?;
+        let layout = Layout::of(&sheet)?;
+        Ok(LaidOut { sheet, layout })
+    }
 }

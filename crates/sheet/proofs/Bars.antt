@@ -32,7 +32,7 @@ abbrev pub Rising : Sheet → Type 0
 Rising sheet = (i j : ℕ) → i < j → j < count sheet → (task_no sheet i).identity < (task_no sheet j).identity
 
 -- A list of rows, filled up with zeros: what stands at one of them, and another put in its place
-slots_at : (n : ℕ) (f : ℕ → ℕ) (i : ℕ) → i < n → get_or (slots 0 (listed n f)) i 0 ≡ f i
+pub slots_at : (n : ℕ) (f : ℕ → ℕ) (i : ℕ) → i < n → get_or (slots 0 (listed n f)) i 0 ≡ f i
 slots_at n f i h = let l = length_listed n f in get_or_append_left (listed n f) _ 0 i (omega arith) ∙ get_or_listed n f i 0 h
 
 set_listed : (n : ℕ) (f g : ℕ → ℕ) (u : ℕ) → u < n → ((i : ℕ) → i < n → i ≢ u → g i ≡ f i) → set (listed n f) u (g u) ≡ listed n g

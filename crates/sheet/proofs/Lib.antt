@@ -1,4 +1,5 @@
 pub mod Bars
+pub mod Kept
 pub mod Limits
 pub mod Lookup
 pub mod Names

@@ -34,6 +34,12 @@ same_threshold a [] i = refl
 same_threshold a (t ∷ ts) zero = refl
 same_threshold a (t ∷ ts) (suc i) = same_threshold (a + length (task_record t)) ts i
 
+pub same_need : (a : ℕ) (ts : List Sheets.Task) (i : ℕ) → (slice_index_or (tasks_from a ts) i no_task).need ≡ (slice_index_or ts i Sheets.no_task).need
+unfolding tasks_from
+same_need a [] i = refl
+same_need a (t ∷ ts) zero = refl
+same_need a (t ∷ ts) (suc i) = same_need (a + length (task_record t)) ts i
+
 -- the two sides of a test of equality may stand either way
 turned : (x y : ℕ) → (x == y) ≡ (y == x)
 turned x y = same_test (x == y) (y == x) (λ e. eq-eqb y x (sym (eqb-true x y e))) (λ e. eq-eqb x y (sym (eqb-true y x e)))

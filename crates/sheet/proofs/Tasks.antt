@@ -165,7 +165,7 @@ pub else_none : (o q : Option ℕ) → option_or o q ≡ None → o ≡ None
 else_none None q e = refl
 else_none (Some k) q e = e
 
-else_rest : (o q : Option ℕ) → option_or o q ≡ None → q ≡ None
+pub else_rest : (o q : Option ℕ) → option_or o q ≡ None → q ≡ None
 else_rest None q e = e
 else_rest (Some k) q e = absurd (none-some k (sym e))
 

@@ -1,0 +1,11 @@
+pub mod Answers
+pub mod Bridge
+pub mod Ends
+pub mod Found
+pub mod Lent
+pub mod Links
+pub mod Placing
+pub mod Sizes
+pub mod Triples
+pub mod Whole
+pub mod LentLists
