@@ -1,5 +1,6 @@
 -- Laws about the paper's definitions, an idea a file. Nothing here is a definition to believe; each law would fail if a definition said something else.
 pub mod Tests
+pub mod Doubles
 pub mod Each
 pub mod Least
 pub mod Greatest

@@ -32,11 +32,18 @@ pub struct LaidOut {
     pub layout: Layout,
 }
 
+impl Place {
+    /// The greatest need, which each alignment divides.
+    pub const MOST_SIZE: u32 = 1_048_576;
+}
+
 impl Layout {
     ghost use Rattle.std.specs.Result.{result_map_both};
     ghost use Rattle.frame.specs.Values.{values_of};
     ghost use Rattle.layout.specs.Nests.{layout_here, rules_here, IsOrderly};
     ghost use Rattle.paper.specs.Refusals.{first, unless};
+
+    pub const MOST_TOTAL: u32 = 16_777_216;
 
     // The layout of a sheet that was read.
     fn of(sheet: &Sheet) -> Result<Layout, Refusal>

@@ -13,6 +13,8 @@ use Rattle.prefix.specs.Bars.{left, left_most, left_falls}
 use Rattle.paper.specs.Words.{last, every}
 use Rattle.paper.specs.Bytes.{has, le16, le32, part}
 use Rattle.paper.specs.Limits.{most_area, is_alignment}
+use Rattle.paper.specs.Maps.{write_into, build}
+use Rattle.paper.specs.Places.{layout_of, layout}
 use Rattle.paper.specs.Printed.{printed, of_sheet}
 use Rattle.paper.specs.Records.{Kind, length_at, kind_at, after, allowed, suits, framing, head_kind, task_kind, bar_kind, end_kind}
 use Rattle.paper.specs.Refusals.{Rule, ◌⇒◌, first, Answer, unless_at, and_then}
@@ -292,3 +294,8 @@ prefix_decides s n room = go (nat_lt n (length s)) refl
 pub prefix_prints : (s : List ℕ) (n : ℕ) → enough ≤ n → printed (take n s) ≡ printed s
 unfolding printed
 prefix_prints s n room = ap of_sheet (prefix_decides s n room)
+
+-- and the map that is built of it
+pub prefix_builds : (s output : List ℕ) (n : ℕ) → enough ≤ n → build (take n s) output ≡ build s output
+unfolding build layout
+prefix_builds s output n room = ap (λ (x : Answer Sheet). write_into (and_then x layout_of) output) (prefix_decides s n room)

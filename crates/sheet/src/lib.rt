@@ -12,5 +12,5 @@ mod task;
 mod tasked;
 
 pub use naming::{name, name_part};
-pub use sheet::Sheet;
+pub use sheet::{Sheet, is_alignment};
 pub use task::Task;

@@ -9,9 +9,9 @@ use crate::tasked::Tasked;
 use arrayvec::ArrayVec;
 use frame::{Fault, Refusal};
 
-// Whether an alignment is one of those that a sheet may have.
+/// Whether an alignment is one of those that a sheet or a map may have.
 #[tactic(auto, unfolding(paper::specs::Words::among))]
-fn is_alignment(alignment: u16) -> bool
+pub fn is_alignment(alignment: u16) -> bool
     ensures { result ≡ is_alignment alignment }
 {
     matches!(alignment, 1 | 2 | 4 | 8 | 16 | 32 | 64)

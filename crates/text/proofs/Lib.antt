@@ -1,3 +1,4 @@
 pub mod Digits
+pub mod MapsSame
 pub mod Same
 pub mod Steps

@@ -1,16 +1,20 @@
-//! What people read: the lines of a layout, or the line of a refusal, put into a lent output.
+//! What people read: the lines of a layout or of a map, or the line of a refusal, put into a lent output.
 #![tactic(auto)]
 
 mod buffer;
 mod chain_line;
 mod decimal;
 mod layout_lines;
-mod output;
+mod map_lines;
+mod place_lines;
 mod printing;
-mod refusal_line;
+mod refusing;
+mod showing;
 mod task_lines;
 mod total_line;
 mod words;
 
 pub use buffer::Text;
 pub use printing::{print, text_of};
+pub use refusing::refusal_line;
+pub use showing::{map_text_of, show};

@@ -6,9 +6,8 @@ ghost use Rattle.paper.specs.Printed.{printed};
 
 use crate::buffer::Text;
 use crate::layout_lines::layout_lines;
-use crate::output::put;
-use crate::refusal_line::refusal_line;
-use frame::Refusal;
+use crate::refusing::refusal_line;
+use frame::{Refusal, put};
 use layout::LaidOut;
 
 /// What people read of a sheet's bytes: the lines of its layout, or the line of its refusal.
