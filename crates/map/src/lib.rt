@@ -1,4 +1,4 @@
-//! Maps: read from bytes, written from bare values, and built from a sheet. A map by value is a layout.
+//! Maps: read from bytes, written from bare values, and built from a sheet. By value, a map is a layout.
 #![tactic(auto)]
 
 mod building;

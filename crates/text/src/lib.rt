@@ -1,4 +1,4 @@
-//! What people read: the lines of a layout or of a map, or the line of a refusal, put into a lent output.
+//! What people read of a sheet or a map, as bytes: the lines of a layout or of a map, or the line of a refusal.
 #![tactic(auto)]
 
 mod buffer;
