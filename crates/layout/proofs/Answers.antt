@@ -1,10 +1,10 @@
 -- Answers behind tables of rules: what one part of a table answers leaves for the whole.
-use Rattle.arrayvec.specs.ArrayVec.{ArrayVec}
 use Rattle.layout.specs.declared.layout.Layout.{Layout}
 use Rattle.layout.specs.declared.layout.Place.{Place}
 use Rattle.std.proofs.lemmas.Bool.{lt-leb}
 use Rattle.std.proofs.Common.{◌≡◌, refl, ap, sym, ◌∙◌, ℕ, ◌<◌, ◌≤◌, nat_le, le-leb, List, [], ◌∷◌, true, false, Option, Some, None, Ok, Err}
 use Rattle.laws.specs.Tables.{not_refused}
+use Rattle.slots.specs.Items.{Items}
 use Rattle.paper.specs.Refusals.{Refusal, Rule, ◌⇒◌, Answer, first, unless, figured}
 
 -- the same refusal, whatever stands behind the table
@@ -42,7 +42,7 @@ pub room : (total area : ℕ) → total ≤ area → first (nat_le total area �
 room total area h = rw (le-leb total area h) refl
 
 -- a layout field by field
-pub whole_layout : (a : ℕ) (t u : ℕ) (p q : ArrayVec Place) (c d : ArrayVec ℕ) → t ≡ u → p.items ≡ q.items → c.items ≡ d.items
+pub whole_layout : (a : ℕ) (t u : ℕ) (p q : Items Place) (c d : Items ℕ) → t ≡ u → p.items ≡ q.items → c.items ≡ d.items
     → ◌≡◌ {A = Layout} (record { alignment = a; total = t; places = p; chain = c }) (record { alignment = a; total = u; places = q; chain = d })
 whole_layout a t u p q c d x y z =
     ap (λ (n : ℕ). record { alignment = a; total = n; places = p; chain = c }) x

@@ -4,9 +4,9 @@ ghost use Rattle.std.specs.Prelude.{◌≡◌, Ok};
 use crate::chain::{chain, total};
 use crate::places::places;
 use crate::transitive;
-use arrayvec::ArrayVec;
 use frame::Refusal;
 use sheet::Sheet;
+use slots::{Blank, Slots};
 
 /// The place of a task in the block.
 #[derive(Clone, Copy, Debug, Default, PartialEq, Eq)]
@@ -17,19 +17,27 @@ pub struct Place {
 }
 
 /// A layout: the places in task order, and the identities of the chain, bottom first.
-#[derive(Clone, Debug, PartialEq, Eq, Drop)]
+#[derive(Clone, Copy, Debug, PartialEq, Eq)]
 pub struct Layout {
     pub alignment: u16,
     pub total: u32,
-    pub places: ArrayVec<Place, { Sheet::MOST_TASKS }>,
-    pub chain: ArrayVec<u16, { Sheet::MOST_TASKS }>,
+    pub places: Slots<Place, { Sheet::MOST_TASKS }>,
+    pub chain: Slots<u16, { Sheet::MOST_TASKS }>,
 }
 
 /// A sheet as it was read, and its layout.
-#[derive(Clone, Debug, PartialEq, Eq, Drop)]
+#[derive(Clone, Copy, Debug, PartialEq, Eq)]
 pub struct LaidOut {
     pub sheet: Sheet,
     pub layout: Layout,
+}
+
+impl Blank for Place {
+    ghost blank = { record { identity = 0; address = 0; size = 0 } };
+
+    fn blank() -> Place {
+        Place::default()
+    }
 }
 
 impl Place {
@@ -62,8 +70,8 @@ impl Layout {
         Ok(Layout {
             alignment: sheet.alignment,
             total,
-            places,
-            chain,
+            places: Slots::of(&places),
+            chain: Slots::of(&chain),
         })
     }
 }

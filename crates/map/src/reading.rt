@@ -11,8 +11,8 @@ ghost use Rattle.paper.specs.Refusals.{first, unless_at};
 
 use crate::rules::{ends_at_total, head_fault, is_link, is_place, total_is_greatest_end};
 use crate::{Layout, Place};
-use arrayvec::ArrayVec;
 use frame::{Fault, Kind, Record, Refusal, le16, le32};
+use slots::Slots;
 
 /// A map as read so far, and where the next record starts.
 #[derive(Drop)]
@@ -40,8 +40,8 @@ impl Walk {
             map: Layout {
                 alignment,
                 total,
-                places: ArrayVec::new(),
-                chain: ArrayVec::new(),
+                places: Slots::new(),
+                chain: Slots::new(),
             },
         })
     }

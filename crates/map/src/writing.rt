@@ -9,8 +9,8 @@ ghost use Rattle.paper.specs.Maps.{count_of, places_of, write_links, map_of_bare
 use crate::image::image;
 use crate::rules::{ends_at_total, head_fault, is_link, is_place, total_is_greatest_end};
 use crate::{Layout, Place};
-use arrayvec::ArrayVec;
 use frame::{Fault, Refusal, put};
+use slots::Slots;
 
 /// What a map is written from: its places as three lists, and the identities of its chain, bottom first.
 #[derive(Clone, Copy)]
@@ -55,8 +55,8 @@ fn with_places(bare: &Bare<'_>) -> Result<Layout, Refusal>
     let mut map = Layout {
         alignment: bare.alignment,
         total: bare.total,
-        places: ArrayVec::new(),
-        chain: ArrayVec::new(),
+        places: Slots::new(),
+        chain: Slots::new(),
     };
     for i in 0..bare.identities.len() {
         let place = Place {

@@ -6,8 +6,8 @@ use crate::Task;
 use crate::barring::Barring;
 use crate::head::Head;
 use crate::tasked::Tasked;
-use arrayvec::ArrayVec;
 use frame::{Fault, Refusal};
+use slots::Slots;
 
 /// Whether an alignment is one of those that a sheet or a map may have.
 #[tactic(auto, unfolding(paper::specs::Words::among))]
@@ -18,11 +18,11 @@ pub fn is_alignment(alignment: u16) -> bool
 }
 
 /// The tasks of a sheet in the sheet's order, and who may preempt whom.
-#[derive(Clone, Debug, PartialEq, Eq, Drop)]
+#[derive(Clone, Copy, Debug, PartialEq, Eq)]
 pub struct Sheet {
     pub alignment: u16,
     pub area: u32,
-    pub tasks: ArrayVec<Task, { Sheet::MOST_TASKS }>,
+    pub tasks: Slots<Task, { Sheet::MOST_TASKS }>,
 
     /// Bit j of row i says that task i may preempt task j; rows past the tasks are 0.
     // An array, since a list is no plainer: its length would have to be kept equal to that of `tasks`, and the opening of
@@ -55,7 +55,7 @@ impl Sheet {
         Ok(Sheet {
             alignment,
             area,
-            tasks: ArrayVec::new(),
+            tasks: Slots::new(),
             relation,
         })
     }

@@ -7,6 +7,7 @@ ghost use Rattle.paper.specs.Words.{every};
 ghost use Rattle.paper.specs.Limits.{in_name};
 
 use frame::{Fault, Part, Refusal, le16, le32};
+use slots::Blank;
 
 /// A task of a sheet. Its name is a part of the sheet's bytes.
 #[derive(Clone, Copy, Debug, Default, PartialEq, Eq)]
@@ -29,6 +30,16 @@ fn is_name(bytes: &[u8]) -> bool
     ensures { result ≡ every in_name bytes.now }
 {
     bytes.iter().all(|&byte| in_name(byte))
+}
+
+impl Blank for Task {
+    ghost use Rattle.sheet.specs.Walks.{no_task};
+
+    ghost blank = { no_task };
+
+    fn blank() -> Task {
+        Task::default()
+    }
 }
 
 impl Task {

@@ -4,15 +4,15 @@ ghost use Rattle.std.specs.Result.{result_map_both};
 ghost use Rattle.frame.specs.Values.{values_of};
 
 use crate::{Sheet, Task};
-use arrayvec::ArrayVec;
 use frame::{Kind, Record, Refusal};
+use slots::Slots;
 
 /// Tasks that were read, the identity of the last one, 0 for none, and where the record after them starts.
 #[derive(Drop)]
 pub(crate) struct Tasked {
     pub(crate) at: usize,
     pub(crate) before: u16,
-    pub(crate) tasks: ArrayVec<Task, { Sheet::MOST_TASKS }>,
+    pub(crate) tasks: Slots<Task, { Sheet::MOST_TASKS }>,
 }
 
 impl Tasked {
@@ -28,7 +28,7 @@ impl Tasked {
     {
         let mut at = from;
         let mut before = 0;
-        let mut tasks = ArrayVec::new();
+        let mut tasks = Slots::new();
         for i in 0..count {
             let end = Record::only(bytes, at, Kind::Task)?;
             let task = Task::read(bytes, at, end, before)?;

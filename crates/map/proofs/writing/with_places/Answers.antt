@@ -1,11 +1,11 @@
-use Rattle.std.proofs.Common.{◌≡◌, sym, ap, ◌+◌, List, false, true, arith, drop, slice_index, subst}
-use Rattle.arrayvec.specs.ArrayVec.{ArrayVec}
+use Rattle.std.proofs.Common.{◌≡◌, sym, ap, ◌+◌, List, [], ◌∷◌, length, length-append, false, true, arith, drop, slice_index, subst}
 use Rattle.layout.specs.declared.layout.Place.{Place}
 use Rattle.map.proofs.FromBare.{places_length, places_drop, places_more, places_not, places_done}
 use Rattle.map.proofs.writing.with_places.Goals as goal
 use Rattle.map.specs.Values.{paper_map, paper_place}
 use Rattle.map.specs.Writing.{bare_value, walk_of, start_of, put_places}
 use Rattle.paper.specs.Maps.{is_place, places_of}
+use Rattle.slots.specs.Items.{Items}
 
 pub returns-then-not-is_place-clause-places : goal.returns-then-not-is_place-clause-places
 returns-then-not-is_place-clause-places c =
@@ -30,12 +30,13 @@ loop-i-preserved c =
     let m = c.loop-i.map in
     let p : Place = record { identity = slice_index il i; address = slice_index al i; size = slice_index zl i } in
     let yes : is_place (paper_map m) (paper_place p) ≡ true = cc in
-    let same = ap (λ (l : List Place). let v : ArrayVec Place = record { items = l } in v) c.push.ensures.items in
+    let more = c.push.ensures.room (omega arith) in
+    let same = ap (λ (l : List Place). let v : Items Place = record { items = l } in v) more in
     record {
       goes =
-          subst (λ (x : ArrayVec Place). put_places (places_of il al zl) (start_of (bare_value b)) ≡ put_places (drop (i + 1) (places_of il al zl)) (walk_of (record m { places = x }))) (sym same)
+          subst (λ (x : Items Place). put_places (places_of il al zl) (start_of (bare_value b)) ≡ put_places (drop (i + 1) (places_of il al zl)) (walk_of (record m { places = x }))) (sym same)
           (places_more (places_of il al zl) (start_of (bare_value b)) i m c.loop-i.invariant.goes p (places_drop il al zl i c.requires.addresses c.requires.sizes c.loop-i-test.true) yes);
-      placed = omega arith;
+      placed = omega (arith, ap length more, length-append m.places.items (p ∷ []));
       unlinked = c.loop-i.invariant.unlinked;
       alignment = c.loop-i.invariant.alignment;
     }

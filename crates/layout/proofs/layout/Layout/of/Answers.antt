@@ -1,4 +1,5 @@
 use Rattle.std.proofs.Common.{sym, ◌∙◌, ap, subst, ℕ, ◌<◌, ◌≤◌, nat_le, [], ◌∷◌, Ok, Err}
+use Rattle.std.proofs.lemmas.List.{take_all}
 use Rattle.frame.specs.Values.{values_of}
 use Rattle.laws.specs.Tables.{unless_none, unless_some}
 use Rattle.layout.proofs.Answers.{broken_first, passed_first, no_room, room, whole_layout}
@@ -37,5 +38,7 @@ returns c =
     let same = c.total-total.ensures ∙ (ap greatest_end (c.deref.ensures.0 ∙ c.places-places.ensures) ∙ total_same sheet) in
     let fits = subst (λ (n : ℕ). n ≤ sheet.area) same c.if-total-sheet.false in
     let passed = passed_first (transitive_here sheet) tt (nat_le t sheet.area ⇒ figured 17 t ∷ []) c.in_ok-check.field-0 c.in_ok-check.ensures ∙ room t sheet.area fits in
-    ap Ok (whole_layout sheet.alignment c.total-total.result t c.places-places.result (layout_here sheet).places c.chain-chain.result (layout_here sheet).chain same c.places-places.ensures c.chain-chain.ensures)
+    let placed = c.of.ensures ∙ (take_all 64 c.deref-3.result.now c.deref-3.ensures.1 ∙ (c.deref-3.ensures.0 ∙ c.places-places.ensures)) in
+    let linked = c.of-2.ensures ∙ (take_all 64 c.deref-4.result.now c.deref-4.ensures.1 ∙ (c.deref-4.ensures.0 ∙ c.chain-chain.ensures)) in
+    ap Ok (whole_layout sheet.alignment c.total-total.result t c.of.result (layout_here sheet).places c.of-2.result (layout_here sheet).chain same placed linked)
     ∙ sym (unless_none (first (rules_here sheet)) (Ok (layout_here sheet)) passed)

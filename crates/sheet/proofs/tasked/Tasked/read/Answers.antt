@@ -1,4 +1,4 @@
-use Rattle.std.proofs.Common.{sym, ◌∙◌, ap₂, ◌-◌, ◌+◌, ℕ, [], ◌∷◌, List, arith}
+use Rattle.std.proofs.Common.{sym, ◌∙◌, ap, ap₂, length, length-append, ◌-◌, ◌+◌, ℕ, [], ◌∷◌, List, arith}
 use Rattle.frame.specs.Framing.{record_at}
 use Rattle.frame.specs.Values.{values_of}
 use Rattle.paper.specs.Records.{task_kind, after}
@@ -36,11 +36,12 @@ loop-i-preserved c =
     let n = c.args.count - (c.loop-i.i + 1) in
     let w : Tasked = record { at = at; before = c.loop-i.before; tasks = c.loop-i.tasks.items } in
     let whole = framed_ok (task_kind ∷ []) s at c.in_ok-end.end c.in_ok-end.ensures.framed in
+    let more = c.push.ensures.room (omega (arith, c.loop-i.invariant.counted)) in
     record {
       read =
-          ap₂ (λ (e : ℕ) (l : List Task). tasks_walk n s (record { at = e; before = t.identity; tasks = l })) c.in_ok-end.ensures.end c.push.ensures.items
+          ap₂ (λ (e : ℕ) (l : List Task). tasks_walk n s (record { at = e; before = t.identity; tasks = l })) c.in_ok-end.ensures.end more
           ∙ (sym (task_more (c.args.count - c.loop-i.i) n s w (omega arith) (record_at s at) t whole (sym c.in_ok-task.ensures)) ∙ c.loop-i.invariant.read);
-      counted = omega (arith, c.push.ensures.len, c.loop-i.invariant.counted);
+      counted = omega (arith, ap length more, length-append c.loop-i.tasks.items (t ∷ []), c.loop-i.invariant.counted);
     }
 
 pub returns-clause-read : goal.returns-clause-read
