@@ -7,5 +7,5 @@ pub invariant_of-self : goal.invariant_of-self
 invariant_of-self g c = (
   omega (arith, c.if-self.true),
   length-set c.self.inside.slots c.self.inside.len _ ∙ c.self.invariant.1,
-  blank_behind g.row.MOST c.self.inside.len c.self.inside.slots g.T.Blank.blank _ (omega (arith, c.if-self.true)) c.self.invariant.2,
+  blank_behind g.row.MOST c.self.inside.len c.self.inside.slots g.T.Blank.blank _ c.self.invariant.2,
 )
